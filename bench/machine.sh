@@ -2,7 +2,7 @@
 # How fast the machine runs C: one worker, programs compiled by `alaska` itself.
 # Use: bench/machine.sh      prints, for each program, how many rounds of its loop a second, and how many times the instructions that its
 #   loop has are done a second: sums and tests in registers, loads and stores through one translation before the loop, calls, mallocs with
-#   frees; and for barriers over 256 to 1,048,576 objects the time of one barrier and of each object that it moves, and the bytes moved a second.
+#   frees; how many rounds a second of callocs with frees, of a vector that grows by realloc, and of atomic sums; and for barriers over 256 to 1,048,576 objects the time of one barrier and of each object that it moves, and the bytes moved a second.
 # It measures crates/alaska/out/alaska as `rt ci` left it in this checkout, or bin/alaska, which ./prove builds.
 set -eu
 here=$(cd "$(dirname "$0")/.." && pwd)
@@ -25,6 +25,12 @@ rate() { # name file rounds instructions-a-round
   awk -v name="$1" -v t="$t" -v e="$empty" -v n="$3" -v k="$4" 'BEGIN { d = t - e; if (d <= 0) d = 1e-9; printf "%-10s %8.3f s  %8.2f million rounds/s  %8.2f million instructions/s\n", name, d, n / d / 1e6, n * k / d / 1e6 }'
 }
 
+pace() { # name file rounds
+  local t
+  t=$(seconds "$2" --entries 16000000)
+  awk -v name="$1" -v t="$t" -v e="$empty" -v n="$3" 'BEGIN { d = t - e; if (d <= 0) d = 1e-9; printf "%-10s %8.3f s  %8.2f million rounds/s\n", name, d, n / d / 1e6 }'
+}
+
 cat >sets.c <<'C'
 int main(void){long s=0;for(int i=0;i<30000000;i++){if(i&1)s=s+i;else s=s^i;}printf("%ld\n",s);return 0;}
 C
@@ -40,11 +46,28 @@ C
 cat >mallocs.c <<'C'
 int main(void){int s=0;for(int i=0;i<1000000;i++){char *p=malloc(24);*p=i;s=s+*p;free(p);}printf("%d\n",s);return 0;}
 C
+cat >callocs.c <<'C'
+int main(void){int s=0;for(int i=0;i<1000000;i++){int *p=calloc(2,12);s=s+p[5]+1;free(p);}printf("%d\n",s);return 0;}
+C
+cat >grows.c <<'C'
+int main(void){int s=0;
+for(int k=0;k<2000;k++){int n=0;int room=4;int *p=malloc(16);
+for(int i=0;i<1000;i++){if(n==room){room=room*2;p=realloc(p,room*sizeof(int));}p[n]=i;n++;}
+s=s+p[n-1];free(p);}
+printf("%d\n",s);return 0;}
+C
+cat >adds.c <<'C'
+atomic_long n;
+int main(void){for(int i=0;i<10000000;i++)atomic_fetch_add(&n,1);printf("%ld\n",n);return 0;}
+C
 # (counted in the linear code: the test, the branch, the two sums and the round of a loop; a load, a store and a Look are a step each)
 rate sets sets.c 30000000 9
 rate loads loads.c 2000000 11
 rate calls calls.c 10000000 8
 rate mallocs mallocs.c 1000000 12
+pace callocs callocs.c 1000000
+pace grows grows.c 2000000
+pace adds adds.c 10000000
 
 barrier() { # objects bytes-of-one rounds
   # A full heap, as a queue. In each round two objects at its front are freed that don't lie side by side, so the malloc of both their rooms

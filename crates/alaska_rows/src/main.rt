@@ -34,7 +34,7 @@ use std::io;
 #[derive(Clone, Copy)]
 struct Row(&'static str, &'static str);
 
-const ROWS: [Row; 79] = [
+const ROWS: [Row; 87] = [
     Row("alaska nothing.c", "all"),
     Row("alaska answer.c", "all"),
     Row("alaska heap.c", "ended live"),
@@ -110,6 +110,23 @@ const ROWS: [Row; 79] = [
     Row("alaska dead_realloc.c --mode check", "all"),
     Row(
         "alaska vector.c --workers 4 --every 7 --schedule 3",
+        "ended threads live",
+    ),
+    Row("alaska exchanged.c", "ended"),
+    Row("alaska exchanged.c --mode check", "all"),
+    Row("alaska added.c --workers 2 --every 8", "ended threads"),
+    Row(
+        "alaska added.c --workers 2 --every 8 --schedule 1",
+        "ended threads",
+    ),
+    Row(
+        "alaska added.c --workers 2 --every 8 --schedule 7",
+        "ended threads",
+    ),
+    Row("alaska wraps.c", "ended"),
+    Row("alaska wraps.c --mode check", "all"),
+    Row(
+        "alaska stack.c --workers 4 --every 3 --schedule 5",
         "ended threads live",
     ),
     Row("alaska unset_by_label.c --mode check", "all"),

@@ -18,6 +18,7 @@ local_place_aligned place n t (Some object) rest g = (tt, (tt, g))
 converts_aligned : (place : ℕ) (ty : tree.Ty) (t : ℕ) (rest : Nodes) → AreAligned rest → AreAligned (converts place ty t rest)
 converts_aligned place tree.void t rest g = g
 converts_aligned place (tree.integer s) t rest g = (tt, g)
+converts_aligned place (tree.atomic s) t rest g = g
 converts_aligned place tree.mutex t rest g = g
 converts_aligned place (tree.pointer s) t rest g = g
 converts_aligned place (tree.array s n) t rest g = g
@@ -36,6 +37,11 @@ lib_aligned place tree.mutex_init es t rest g = (tt, (tt, (tt, g)))
 lib_aligned place tree.mutex_lock es t rest g = (tt, (tt, g))
 lib_aligned place tree.mutex_unlock es t rest g = (tt, (tt, g))
 lib_aligned place tree.mutex_destroy es t rest g = (tt, g)
+lib_aligned place tree.atomic_add es t rest g = (tt, g)
+lib_aligned place tree.atomic_sub es t rest g = (tt, (tt, (tt, (tt, (tt, g)))))
+lib_aligned place tree.atomic_swap es t rest g = (tt, g)
+lib_aligned place tree.atomic_compare es t rest g = (tt, g)
+lib_aligned place tree.atomic_store es t rest g = (tt, g)
 
 -- ---- expressions
 

@@ -1,12 +1,13 @@
 -- In the code of statements each copy is aligned to 1, 2, 4 or 8 bytes, where types are.
 use Rattle.std.proofs.Common.{ℕ, suc, ◌==◌, Bool, true, false, if◌then◌else◌, List, [], ◌∷◌, ◌++◌, Option, Some, None}
+use Rattle.ak_words.specs.declared.int_type.IntType.{IntType}
 use Rattle.ak_words.specs.declared.operation.Op.{Op}
 use Rattle.c_tree.specs.Typed as tree
-use Rattle.c_meaning.specs.Values.{is_scalar}
+use Rattle.c_meaning.specs.Values.{is_scalar, is_atomic, is_minus}
 use Rattle.c_meaning.specs.Switches.{stands_at}
 use Rattle.c_meaning.specs.Turns.{is_struct}
-use Rattle.struct_ir.specs.Nodes.{Nodes, no_nodes}
-use Rattle.lower_forms.specs.Forms.{Frame, looped, switched, home, first_temp, behind, reach, is_void, value_nodes, object_place, dropped_nodes, dropped_value, begins, ends, objects_by, objects_in, initialises, store_nodes, copy_nodes, own_register, assign_nodes, computes, update_nodes, choose_nodes, begin_if, label_nodes, stmt_place, guarded, break_nodes, test_nodes, stmt_nodes, form_nodes, row_nodes, switch_nodes}
+use Rattle.struct_ir.specs.Nodes.{Place, Nodes, no_nodes}
+use Rattle.lower_forms.specs.Forms.{Frame, looped, switched, home, first_temp, behind, reach, is_void, value_nodes, object_place, dropped_nodes, dropped_value, begins, ends, objects_by, objects_in, initialises, store_nodes, copy_nodes, own_register, assign_nodes, computes, change_nodes, update_nodes, choose_nodes, begin_if, label_nodes, stmt_place, guarded, break_nodes, test_nodes, stmt_nodes, form_nodes, row_nodes, switch_nodes}
 use Rattle.alaska_run.proofs.AlignedTypes.{AreTypesAligned}
 use Rattle.alaska_run.proofs.AlignedRows.{AreAligned}
 use Rattle.alaska_run.proofs.AlignedExprs.{expr_aligned, value_aligned, place_aligned, object_aligned, args_aligned}
@@ -35,6 +36,7 @@ initialises_aligned place (Some object) n t ty rest g = (tt, (tt, g))
 computes_aligned : (structs : List tree.Layout) (place : ℕ) (op : Op) (u v : tree.Ty) (m n to : ℕ) (rest : Nodes) → AreAligned rest → AreAligned (computes structs place op u v m n to rest)
 computes_aligned structs place op (tree.integer u) v m n to rest g = (tt, (tt, (tt, (tt, g))))
 computes_aligned structs place op tree.void v m n to rest g = (tt, g)
+computes_aligned structs place op (tree.atomic u) v m n to rest g = (tt, g)
 computes_aligned structs place op tree.mutex v m n to rest g = (tt, g)
 computes_aligned structs place op (tree.pointer u) v m n to rest g = (tt, g)
 computes_aligned structs place op (tree.array u l) v m n to rest g = (tt, g)
@@ -73,10 +75,15 @@ module _ (f : Frame) where
   assign_aligned a place None left right t rest g = either_aligned (is_struct (tree.type_of left)) _ _ (copy_aligned a left right t rest g) (store_aligned left right t rest g)
   assign_aligned a place (Some n) left right t rest g = expr_aligned f right t _ (tt, g)
 
+  change_aligned : (place : ℕ) (away : Bool) (ty : IntType) (p : Place) (u : ℕ) (to : Option ℕ) (rest : Nodes) → AreAligned rest → AreAligned (change_nodes place away ty p u to rest)
+  change_aligned place false ty p u to rest g = (tt, g)
+  change_aligned place true ty p u to rest g = (tt, (tt, (tt, (tt, (tt, g)))))
+
   update_aligned : (place : ℕ) (op : Op) (o : Option ℕ) (left right : tree.Expr) (t : ℕ) (rest : Nodes) → AreAligned rest → AreAligned (update_nodes f place op o left right t rest)
   update_aligned place op None left right t rest g =
       place_aligned f left t _ (expr_aligned f right _ _
-      (tt, computes_aligned f.structs place op (tree.type_of left) (tree.type_of right) (suc (behind (reach f left) t)) (behind (reach f left) t) (behind (reach f left) t) _ (tt, g)))
+      (either_aligned (is_atomic (tree.type_of left)) _ _ (change_aligned (tree.place_of left) (is_minus op) _ _ _ None rest g)
+      (tt, computes_aligned f.structs place op (tree.type_of left) (tree.type_of right) (suc (behind (reach f left) t)) (behind (reach f left) t) (behind (reach f left) t) _ (tt, g))))
   update_aligned place op (Some n) left right t rest g =
       expr_aligned f right t _ (tt, computes_aligned f.structs place op (tree.type_of left) (tree.type_of right) (suc t) t n rest g)
 

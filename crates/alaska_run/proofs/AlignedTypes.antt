@@ -103,6 +103,7 @@ module _ (structs : List tree.Layout) (laid : AllByRecursion (IsLayout structs) 
   type_aligned : (ty : tree.Ty) → ((m : ℕ) → HoldsStruct ty m → IsAligned (layout_align (slice_get structs m))) → IsAligned (align_in structs ty)
   type_aligned tree.void h = refl
   type_aligned (tree.integer t) h = bytes_aligned t.bits t.known_width
+  type_aligned (tree.atomic t) h = bytes_aligned t.bits t.known_width
   type_aligned tree.mutex h = refl
   type_aligned (tree.pointer t) h = refl
   type_aligned (tree.array t n) h = type_aligned t h

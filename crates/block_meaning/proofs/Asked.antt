@@ -12,6 +12,7 @@ use Rattle.block_store.specs.declared.values.Ptr.TheVariants.{To}
 use Rattle.block_store.specs.declared.values.Value.{Value}
 use Rattle.block_store.specs.declared.values.Value.TheVariants as values
 use Rattle.block_store.specs.Actions as actions
+use Rattle.block_store.specs.Atomics.{changed, compared}
 use Rattle.block_store.specs.Blocks.{Blocks, made, loaded, stored, copied, freed, renewed}
 use Rattle.block_store.specs.Mutexes.{locked, unlocked, destroyed}
 use Rattle.block_store.specs.Runs.{Turn, Program, State, Pick, went, unfit, turn_if, picked, own_at}
@@ -138,6 +139,8 @@ asks p thread function callers (pendings.Act place (acts.Allocate size first) ne
 asks p thread function callers (pendings.Act place (acts.Reallocate at size) next) locals blocks w =
     renewal_asks (told_in p thread function callers) locals (point_of next) place w blocks (λ answer. actions.renew_reaches (actions.with_blocks w blocks) answer at size) size (renewed blocks at size) (freed blocks at) (renewal blocks at size)
 asks p thread function callers (pendings.Act place (acts.Free at) next) locals blocks w = settled_asks w place (told_in p thread function callers answers.Plain) locals (point_of next) _ (actions.changes (actions.with_blocks w blocks) (freed blocks at))
+asks p thread function callers (pendings.Act place (acts.Change at how by) next) locals blocks w = settled_asks w place (told_in p thread function callers answers.Plain) locals (point_of next) _ (actions.changes_number (actions.with_blocks w blocks) (changed blocks at by.ty how by.value))
+asks p thread function callers (pendings.Act place (acts.Compare at want new) next) locals blocks w = settled_asks w place (told_in p thread function callers answers.Plain) locals (point_of next) _ (actions.compares (actions.with_blocks w blocks) (compared blocks at want new.ty new.value))
 asks p thread function callers (pendings.Act place (acts.Print all) next) locals blocks w = settled_asks w place (told_in p thread function callers answers.Plain) locals (point_of next) _ (actions.prints (actions.with_blocks w blocks) (actions.all_bytes blocks (map printed_of all.items)))
 asks p thread function callers (pendings.Act place (acts.Lock at) next) locals blocks w = settled_asks w place (told_in p thread function callers answers.Plain) locals (point_of next) _ (actions.changes_or_waits (actions.with_blocks w blocks) (locked blocks at thread))
 asks p thread function callers (pendings.Act place (acts.Unlock at) next) locals blocks w = settled_asks w place (told_in p thread function callers answers.Plain) locals (point_of next) _ (actions.changes (actions.with_blocks w blocks) (unlocked blocks at thread))

@@ -201,6 +201,7 @@ mutual
   dropped_node_makes n h f place ty (tree.lib which args) w g x = call_dropped n h place (control.library which) args w f g x
   dropped_node_makes n h f place tree.void (tree.convert e) w g x = dropped_makes n h f e w g x
   dropped_node_makes n h f place (tree.integer t) (tree.convert e) w g x = plain_dropped n h place (tree.integer t) (tree.convert e) w f g x
+  dropped_node_makes n h f place (tree.atomic t) (tree.convert e) w g x = plain_dropped n h place (tree.atomic t) (tree.convert e) w f g x
   dropped_node_makes n h f place tree.mutex (tree.convert e) w g x = plain_dropped n h place tree.mutex (tree.convert e) w f g x
   dropped_node_makes n h f place (tree.pointer to) (tree.convert e) w g x = plain_dropped n h place (tree.pointer to) (tree.convert e) w f g x
   dropped_node_makes n h f place (tree.array of size) (tree.convert e) w g x = plain_dropped n h place (tree.array of size) (tree.convert e) w f g x

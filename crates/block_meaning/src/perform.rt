@@ -75,6 +75,11 @@ fn value_of_call(
         Lib::Start(_) => Ok(v),
         Lib::Join => Ok(v),
         Lib::MutexDestroy => Ok(v),
+        Lib::AtomicAdd => Ok(v),
+        Lib::AtomicSub => Ok(v),
+        Lib::AtomicSwap => Ok(v),
+        Lib::AtomicCompare => Ok(v),
+        Lib::AtomicStore => Ok(v),
     }
 }
 

@@ -1,5 +1,5 @@
 -- What an action gives is of the type that it should be, and which answers it takes.
-use Rattle.std.proofs.Common.{◌≡◌, ℕ, zero, suc, ◌==◌, ◌^◌, nat_lt, Bool, true, false, List, [], ◌∷◌, ◌++◌, set, Option, Some, None, Ok, Err, ℤ, pos, refl, subst}
+use Rattle.std.proofs.Common.{◌≡◌, ℕ, zero, suc, ◌==◌, ◌/◌, ◌^◌, nat_lt, Bool, true, false, List, [], ◌∷◌, ◌++◌, set, Option, Some, None, Ok, Err, ℤ, pos, refl, subst}
 use Rattle.std.specs.Prelude.{Result, if◌then◌else◌, slice_get}
 use Rattle.std.specs.Option.{option_map, ok_or}
 use Rattle.std.specs.List.{AllByRecursion}
@@ -11,17 +11,20 @@ use Rattle.ak_words.specs.Num.{num}
 use Rattle.block_store.specs.declared.values.Answer.{Answer}
 use Rattle.block_store.specs.declared.values.Answer.TheVariants as answers
 use Rattle.block_store.specs.declared.values.Cell.{Cell}
+use Rattle.block_store.specs.declared.values.Change.{Change}
 use Rattle.block_store.specs.declared.values.Ptr.{Ptr}
 use Rattle.block_store.specs.declared.values.Value.{Value}
 use Rattle.block_store.specs.declared.values.Value.TheVariants as values
 use Rattle.block_store.specs.Actions as actions
 use Rattle.block_store.specs.Actions.{World, ThreadRecord, Stage, SharedAction, Done, Reached, acted, under, outcomes, telling, at_stage, staged_if, staged}
+use Rattle.block_store.specs.Atomics as atomics
+use Rattle.block_store.specs.Atomics.{Number, number_in, writable_at, Changed, change_of, changed, Compared, compared}
 use Rattle.block_store.specs.Blocks.{Blocks, Range, loaded, read_at, spot_at, cells_at, stored, copied, renewed}
-use Rattle.block_store.specs.Cells.{size_of, value_of, read, has_unknown, number_of, pointer_of}
+use Rattle.block_store.specs.Cells.{size_of, value_of, read, has_unknown, number_of, pointer_of, read_number}
 use Rattle.c_tree.specs.Typed as tree
-use Rattle.c_tree.specs.TypedForm.{IsScalar}
 use Rattle.c_meaning.specs.Values.{access_of_type}
 use Rattle.c_meaning.specs.Kinds.{HasType, HasTypeIf, CanBegin, IsTypedWorld}
+use Rattle.c_meaning.proofs.TypedValues.{HasValues}
 
 -- ---- what is done
 
@@ -83,12 +86,17 @@ number_read : (t : IntType) (o : Option ℕ) → SomeTyped (tree.integer t) (opt
 number_read t None = tt
 number_read t (Some bits) = refl
 
+atomic_read : (t : IntType) (o : Option ℕ) → SomeTyped (tree.atomic t) (option_map (λ (bits : ℕ). values.Num (num t (pos bits))) o)
+atomic_read t None = tt
+atomic_read t (Some bits) = refl
+
 pointer_read : (to : tree.Ty) (o : Option Ptr) → SomeTyped (tree.pointer to) (option_map values.Pointer o)
 pointer_read to None = tt
 pointer_read to (Some p) = tt
 
-value_read : (ty : tree.Ty) (cells : List Cell) → IsScalar ty → SomeTyped ty (value_of (access_of_type ty) cells)
+value_read : (ty : tree.Ty) (cells : List Cell) → HasValues ty → SomeTyped ty (value_of (access_of_type ty) cells)
 value_read (tree.integer t) cells h = number_read t (number_of cells)
+value_read (tree.atomic t) cells h = atomic_read t (number_of cells)
 value_read (tree.pointer to) cells h = pointer_read to (pointer_of cells)
 value_read ty cells h = elim h [ ]
 
@@ -100,22 +108,22 @@ unless_unknown : (ty : tree.Ty) (b : Bool) (r : Result Value Rule) → OkTyped t
 unless_unknown ty true r h = tt
 unless_unknown ty false r h = h
 
-read_typed : (ty : tree.Ty) (cells : List Cell) → IsScalar ty → OkTyped ty (read (access_of_type ty) cells)
+read_typed : (ty : tree.Ty) (cells : List Cell) → HasValues ty → OkTyped ty (read (access_of_type ty) cells)
 read_typed ty cells h = unless_unknown ty (has_unknown cells) (ok_or (value_of (access_of_type ty) cells) C16) (ok_or_typed ty (value_of (access_of_type ty) cells) C16 (value_read ty cells h))
 
-read_at_typed : (ty : tree.Ty) (s : Result Range Rule) → IsScalar ty → OkTyped ty (read_at (access_of_type ty) s)
+read_at_typed : (ty : tree.Ty) (s : Result Range Rule) → HasValues ty → OkTyped ty (read_at (access_of_type ty) s)
 read_at_typed ty (Ok s) h = read_typed ty (cells_at (size_of (access_of_type ty)) s) h
 read_at_typed ty (Err rule) h = tt
 
 -- a load gives a value of the type whose access it is
-pub loaded_typed : (ty : tree.Ty) (blocks : Blocks) (at : Ptr) → IsScalar ty → OkTyped ty (loaded blocks at (access_of_type ty))
+pub loaded_typed : (ty : tree.Ty) (blocks : Blocks) (at : Ptr) → HasValues ty → OkTyped ty (loaded blocks at (access_of_type ty))
 loaded_typed ty blocks at h = read_at_typed ty (spot_at blocks (size_of (access_of_type ty)) at) h
 
 gives_done : (t : tree.Typed) (ty : tree.Ty) (w : World) (r : Result Value Rule) → OkTyped ty r → IsTypedWorld t w → DoneWith t (HasTypeIf ty) (actions.gives w r)
 gives_done t ty w (Ok v) o h = (o, h)
 gives_done t ty w (Err rule) o h = tt
 
-pub load_done : (t : tree.Typed) (ty : tree.Ty) (w : World) (thread : ℕ) (answer : Answer) (at : Ptr) → IsScalar ty → IsTypedWorld t w → DoneWith t (HasTypeIf ty) (acted w thread answer (actions.load at (access_of_type ty)))
+pub load_done : (t : tree.Typed) (ty : tree.Ty) (w : World) (thread : ℕ) (answer : Answer) (at : Ptr) → HasValues ty → IsTypedWorld t w → DoneWith t (HasTypeIf ty) (acted w thread answer (actions.load at (access_of_type ty)))
 load_done t ty w thread answer at s h = acted_done t (HasTypeIf ty) w thread answer (actions.load at (access_of_type ty)) (gives_done t ty w (loaded w.blocks at (access_of_type ty)) (loaded_typed ty w.blocks at s) h) tt tt
 
 -- ---- stores and copies
@@ -139,6 +147,49 @@ renews_done t to w size (Ok blocks) answers.None h = (tt, h)
 pub realloc_done : (t : tree.Typed) (to : tree.Ty) (w : World) (thread : ℕ) (answer : Answer) (at : Ptr) (size : ℕ) → IsTypedWorld t w → DoneWith t (HasTypeIf (tree.pointer to)) (acted w thread answer (actions.reallocate at size))
 realloc_done t to w thread answer at size h =
     telling_done t (HasTypeIf (tree.pointer to)) (actions.writes_of w answer (actions.reallocate at size)) (under answer (actions.renews w size (renewed w.blocks at size))) (renews_done t to w size (renewed w.blocks at size) answer h)
+
+-- ---- atomic numbers
+
+-- a change gives the number that was there
+-- a change gives a number of this type
+abbrev pub OldIs : IntType → Result Changed Rule → Type 0
+OldIs ty (Ok c) = c.old.ty ≡ ty
+OldIs ty (Err rule) = Unit {0}
+
+abbrev NumberIs : IntType → Result Number Rule → Type 0
+NumberIs ty (Ok n) = n.value.ty ≡ ty
+NumberIs ty (Err rule) = Unit {0}
+
+number_read_is : (ty : IntType) (s : Range) (r : Result ℕ Rule) → NumberIs ty (atomics.number_read ty s r)
+number_read_is ty s (Ok bits) = refl
+number_read_is ty s (Err rule) = tt
+
+number_in_is : (ty : IntType) (r : Result Range Rule) → NumberIs ty (number_in ty r)
+number_in_is ty (Ok s) = number_read_is ty s (read_number (cells_at (ty.bits / 8) s))
+number_in_is ty (Err rule) = tt
+
+changed_old : (ty : IntType) (blocks : Blocks) (how : Change) (by : ℤ) (r : Result Number Rule) → NumberIs ty r → OldIs ty (change_of blocks ty how by r)
+changed_old ty blocks how by (Ok n) h = h
+changed_old ty blocks how by (Err rule) h = tt
+
+pub old_is : (ty : IntType) (blocks : Blocks) (at : Ptr) (how : Change) (by : ℤ) → OldIs ty (changed blocks at ty how by)
+old_is ty blocks at how by = changed_old ty blocks how by (number_in ty (writable_at blocks ty at)) (number_in_is ty (writable_at blocks ty at))
+
+changes_number_done : (t : tree.Typed) (ty : IntType) (w : World) (r : Result Changed Rule) → OldIs ty r → IsTypedWorld t w → DoneWith t (HasTypeIf (tree.integer ty)) (actions.changes_number w r)
+changes_number_done t ty w (Ok c) o h = (o, h)
+changes_number_done t ty w (Err rule) o h = tt
+
+pub change_done : (t : tree.Typed) (ty : IntType) (w : World) (thread : ℕ) (answer : Answer) (at : Ptr) (how : Change) (by : ℤ) → IsTypedWorld t w → DoneWith t (HasTypeIf (tree.integer ty)) (acted w thread answer (actions.change at ty how by))
+change_done t ty w thread answer at how by h =
+    acted_done t (HasTypeIf (tree.integer ty)) w thread answer (actions.change at ty how by) (changes_number_done t ty w (changed w.blocks at ty how by) (old_is ty w.blocks at how by) h) tt tt
+
+compares_done : (t : tree.Typed) (w : World) (r : Result Compared Rule) → IsTypedWorld t w → DoneWith t (HasTypeIf (tree.integer int)) (actions.compares w r)
+compares_done t w (Ok c) h = (refl, h)
+compares_done t w (Err rule) h = tt
+
+pub compare_done : (t : tree.Typed) (ty : IntType) (w : World) (thread : ℕ) (answer : Answer) (at want : Ptr) (new : ℤ) → IsTypedWorld t w → DoneWith t (HasTypeIf (tree.integer int)) (acted w thread answer (actions.compare at want ty new))
+compare_done t ty w thread answer at want new h =
+    acted_done t (HasTypeIf (tree.integer int)) w thread answer (actions.compare at want ty new) (compares_done t w (compared w.blocks at want ty new) h) tt tt
 
 -- ---- threads
 

@@ -9,6 +9,8 @@ use Rattle.ak_words.specs.IntType.{int, unsigned_long}
 use Rattle.block_store.specs.declared.values.Answer.{Answer}
 use Rattle.block_store.specs.declared.values.Cell.{Cell}
 use Rattle.block_store.specs.declared.values.Cell.TheVariants.{Unknown, Byte}
+use Rattle.block_store.specs.declared.values.Change.{Change}
+use Rattle.block_store.specs.declared.values.Change.TheVariants.{Add, Swap}
 use Rattle.block_store.specs.declared.values.Ptr.{Ptr}
 use Rattle.block_store.specs.declared.values.Value.{Value}
 use Rattle.block_store.specs.declared.values.Value.TheVariants as values
@@ -17,14 +19,15 @@ use Rattle.block_store.specs.Actions.{World, SharedAction, Done, acted}
 use Rattle.block_store.specs.Blocks.{stored, freed}
 use Rattle.block_store.specs.Mutexes.{locked, unlocked, destroyed}
 use Rattle.c_tree.specs.Typed as tree
-use Rattle.c_tree.specs.TypedForm.{IsScalar, Fits, IsNth, HasBits, ArePrinted, CanStart, InScope, AreArguments, IsLibCall, IsTyped, AreTyped, Signature, signature_of, context_of, IsFunc, IsWellFormed}
+use Rattle.c_tree.specs.TypedForm.{IsScalar, Fits, IsNth, HasBits, ArePrinted, CanStart, InScope, AreArguments, IsAtomicCall, IsLibCall, IsTyped, AreTyped, Signature, signature_of, context_of, IsFunc, IsWellFormed}
 use Rattle.c_tree.specs.TypedPrinting.{parts}
+use Rattle.c_meaning.specs.Values.{opposite_of}
 use Rattle.c_meaning.specs.Control.{Callee, function, library}
 use Rattle.c_meaning.specs.Library.{numbers_of, pointers_of, free_mutex, action_of, value_of_call}
 use Rattle.c_meaning.specs.Kinds.{HasType, HasTypeIf, IsCalled, StandBefore, CanBegin, IsTypedWorld}
 use Rattle.c_meaning.proofs.TypedValues.{fits_type, pointer_scalar}
 use Rattle.c_meaning.proofs.TypedLocals.{at_number, ArgumentsHold, arguments_hold, params_scalar}
-use Rattle.c_meaning.proofs.TypedActions.{DoneWith, acted_done, IsNoValue, changes_done, waits_done, passes_done, done_if, store_done, copy_done, realloc_done, starts_done, joined_done, prints_done}
+use Rattle.c_meaning.proofs.TypedActions.{DoneWith, acted_done, IsNoValue, changes_done, waits_done, passes_done, done_if, store_done, copy_done, realloc_done, change_done, compare_done, starts_done, joined_done, prints_done}
 
 -- ---- arguments
 
@@ -35,6 +38,7 @@ AreScalar (tree.more_exprs e rest) = IsScalar (tree.type_of e) × AreScalar rest
 
 pub fits_scalar : (s t : tree.Ty) → Fits s t → IsScalar t → IsScalar s
 fits_scalar (tree.integer s) (tree.integer t) h i = tt
+fits_scalar (tree.integer s) (tree.atomic t) h i = tt
 fits_scalar (tree.pointer s) (tree.pointer t) h i = tt
 fits_scalar (tree.structure m) (tree.structure n) h i = elim i [ ]
 fits_scalar s t h i = elim h [ ]
@@ -60,6 +64,10 @@ arguments_scalar [] (tree.more_exprs e all) s h = elim h [ ]
 arguments_scalar (t ∷ ts) tree.no_exprs s h = elim h [ ]
 arguments_scalar (t ∷ ts) (tree.more_exprs e all) s h = (fits_scalar (tree.type_of e) t h.0 s.0, arguments_scalar ts all s.1 h.1)
 
+atomic_scalar : (others : IntType → List tree.Ty) (result : IntType → tree.Ty) (all : tree.Exprs) (ty : tree.Ty) → ((t : IntType) → AllByRecursion IsScalar (others t)) → IsAtomicCall others result all ty → AreScalar all
+atomic_scalar others result tree.no_exprs ty s h = elim h [ ]
+atomic_scalar others result (tree.more_exprs e rest) ty s h = (subst IsScalar (sym h.1) tt, arguments_scalar (others h.0) rest (s h.0) h.3)
+
 lib_scalar : (c : InScope) (which : tree.Lib) (all : tree.Exprs) (ty : tree.Ty) → IsLibCall c which all ty → AreScalar all
 lib_scalar c (tree.print pieces) all ty h = printed_scalar pieces all h.0
 lib_scalar c tree.malloc all ty h = arguments_scalar (tree.integer unsigned_long ∷ []) all (tt, tt) h.0
@@ -73,6 +81,11 @@ lib_scalar c tree.mutex_init all ty h = arguments_scalar (tree.pointer tree.mute
 lib_scalar c tree.mutex_lock all ty h = arguments_scalar (tree.pointer tree.mutex ∷ []) all (tt, tt) h.0
 lib_scalar c tree.mutex_unlock all ty h = arguments_scalar (tree.pointer tree.mutex ∷ []) all (tt, tt) h.0
 lib_scalar c tree.mutex_destroy all ty h = arguments_scalar (tree.pointer tree.mutex ∷ []) all (tt, tt) h.0
+lib_scalar c tree.atomic_add all ty h = atomic_scalar (λ s. tree.integer s ∷ []) (λ s. tree.integer s) all ty (λ t. (tt, tt)) h
+lib_scalar c tree.atomic_sub all ty h = atomic_scalar (λ s. tree.integer s ∷ []) (λ s. tree.integer s) all ty (λ t. (tt, tt)) h
+lib_scalar c tree.atomic_swap all ty h = atomic_scalar (λ s. tree.integer s ∷ []) (λ s. tree.integer s) all ty (λ t. (tt, tt)) h
+lib_scalar c tree.atomic_compare all ty h = atomic_scalar (λ s. tree.pointer (tree.integer s) ∷ tree.integer s ∷ []) (λ s. tree.integer int) all ty (λ t. (tt, (tt, tt))) h
+lib_scalar c tree.atomic_store all ty h = atomic_scalar (λ s. tree.integer s ∷ []) (λ s. tree.void) all ty (λ t. (tt, tt)) h
 
 -- ---- functions
 
@@ -267,6 +280,56 @@ destroy_does t p w thread answer h =
     done_also t IsNoValue (HasTypeIf tree.void) (no_value_typed tree.void) (acted w thread answer (actions.destroy p))
     (acted_done t IsNoValue w thread answer (actions.destroy p) (passes_done t w (destroyed w.blocks p) h) tt tt)
 
+-- a pointer to an atomic number, and a number of its type
+one_changed : (ty : IntType) (P : List Value → Type 0) → ((p : Ptr) (n : Num) → n.ty ≡ ty → P (values.Pointer p ∷ values.Num n ∷ [])) → (vs : List Value) → HasTypes (tree.pointer (tree.atomic ty) ∷ tree.integer ty ∷ []) vs → P vs
+one_changed ty P f [] h = elim h [ ]
+one_changed ty P f (values.Num n ∷ vs) h = elim h.0 [ ]
+one_changed ty P f (values.Pointer p ∷ []) h = elim h.1 [ ]
+one_changed ty P f (values.Pointer p ∷ values.Pointer q ∷ vs) h = elim h.1.0 [ ]
+one_changed ty P f (values.Pointer p ∷ values.Num n ∷ []) h = f p n h.1.0
+one_changed ty P f (values.Pointer p ∷ values.Num n ∷ v ∷ vs) h = elim h.1.1 [ ]
+
+changing_does : (t : tree.Typed) (ty : IntType) (how : Change) (p : Ptr) (n : Num) → n.ty ≡ ty → (w : World) (thread : ℕ) (answer : Answer) → IsTypedWorld t w
+    → DoneWith t (HasTypeIf (tree.integer ty)) (acted w thread answer (actions.change p n.ty how n.value))
+changing_does t ty how p n e w thread answer h =
+    subst (λ (z : IntType). DoneWith t (HasTypeIf (tree.integer z)) (acted w thread answer (actions.change p n.ty how n.value))) e (change_done t n.ty w thread answer p how n.value h)
+
+adding_does : (t : tree.Typed) (ty : IntType) (p : Ptr) (n : Num) → n.ty ≡ ty → DoesOn t tree.atomic_add (tree.integer ty) (values.Pointer p ∷ values.Num n ∷ [])
+adding_does t ty p n e w thread answer h = changing_does t ty Add p n e w thread answer h
+
+swapping_does : (t : tree.Typed) (ty : IntType) (p : Ptr) (n : Num) → n.ty ≡ ty → DoesOn t tree.atomic_swap (tree.integer ty) (values.Pointer p ∷ values.Num n ∷ [])
+swapping_does t ty p n e w thread answer h = changing_does t ty Swap p n e w thread answer h
+
+taking_does : (t : tree.Typed) (ty : IntType) (p : Ptr) (n : Num) → n.ty ≡ ty → DoesOn t tree.atomic_sub (tree.integer ty) (values.Pointer p ∷ values.Num n ∷ [])
+taking_does t ty p n e w thread answer h = changing_does t ty Add p (opposite_of n) e w thread answer h
+
+storing_does : (t : tree.Typed) (ty : IntType) (p : Ptr) (n : Num) → n.ty ≡ ty → DoesOn t tree.atomic_store tree.void (values.Pointer p ∷ values.Num n ∷ [])
+storing_does t ty p n e w thread answer h =
+    done_also t IsNoValue (HasTypeIf tree.void) (no_value_typed tree.void) (acted w thread answer (actions.store p (values.Num n))) (store_done t w thread answer p (values.Num n) h)
+
+comparing_does : (t : tree.Typed) (p q : Ptr) (n : Num) → DoesOn t tree.atomic_compare (tree.integer int) (values.Pointer p ∷ values.Pointer q ∷ values.Num n ∷ [])
+comparing_does t p q n w thread answer h = compare_done t n.ty w thread answer p q n.value h
+
+compare_does : (t : tree.Typed) (ty : IntType) (args : List Value) → HasTypes (tree.pointer (tree.atomic ty) ∷ tree.pointer (tree.integer ty) ∷ tree.integer ty ∷ []) args → DoesOn t tree.atomic_compare (tree.integer int) args
+compare_does t ty =
+    let P : List Value → Type 0 = DoesOn t tree.atomic_compare (tree.integer int) in
+    pointer_first (tree.atomic ty) (tree.pointer (tree.integer ty) ∷ tree.integer ty ∷ []) P
+    (λ p. pointer_first (tree.integer ty) (tree.integer ty ∷ []) (λ vs. P (values.Pointer p ∷ vs))
+    (λ q. number_first ty [] (λ vs. P (values.Pointer p ∷ values.Pointer q ∷ vs))
+    (λ n. none_left (λ vs. P (values.Pointer p ∷ values.Pointer q ∷ values.Num n ∷ vs)) (comparing_does t p q n))))
+
+-- the arguments of a call of an atomic number, and the call's type
+pub record OfAtomic (others : IntType → List tree.Ty) (result : IntType → tree.Ty) (args : List Value) (ty : tree.Ty) : Type 0 where
+  pub number : IntType
+  pub types : HasTypes (tree.pointer (tree.atomic number) ∷ others number) args
+  pub gives : ty ≡ result number
+
+of_atomic : (others : IntType → List tree.Ty) (result : IntType → tree.Ty) (all : tree.Exprs) (ty : tree.Ty) (args : List Value) → IsAtomicCall others result all ty → StandBefore args tree.no_exprs all → OfAtomic others result args ty
+of_atomic others result tree.no_exprs ty args h l = elim h [ ]
+of_atomic others result (tree.more_exprs e rest) ty [] h l = absurd cc
+of_atomic others result (tree.more_exprs e rest) ty (v ∷ vs) h l =
+    record { number = h.0; types = (subst (λ (z : tree.Ty). HasType z v) h.1 l.0, argument_types (others h.0) rest vs h.3 l.1); gives = h.4 }
+
 may_begin : (t : tree.Typed) (f : ℕ) → IsNth (map signature_of t.funcs) f CanStart → CanBegin t f
 may_begin t f h = let g = nth_of signature_of t.funcs f h.0 h.1 in (g.0, g.1, inr (subst CanStart (sym g.2) h.2))
 
@@ -298,3 +361,18 @@ lib_does t g tree.mutex_unlock all ty args h l =
     of_type t tree.mutex_unlock args (tree.integer int) ty h.1 (one_pointer tree.mutex (DoesOn t tree.mutex_unlock (tree.integer int)) (unlock_does t) args (argument_types (tree.pointer tree.mutex ∷ []) all args h.0 l))
 lib_does t g tree.mutex_destroy all ty args h l =
     of_type t tree.mutex_destroy args tree.void ty h.1 (one_pointer tree.mutex (DoesOn t tree.mutex_destroy tree.void) (destroy_does t) args (argument_types (tree.pointer tree.mutex ∷ []) all args h.0 l))
+lib_does t g tree.atomic_add all ty args h l =
+    let a = of_atomic (λ s. tree.integer s ∷ []) (λ s. tree.integer s) all ty args h l in
+    of_type t tree.atomic_add args (tree.integer a.number) ty a.gives (one_changed a.number (DoesOn t tree.atomic_add (tree.integer a.number)) (adding_does t a.number) args a.types)
+lib_does t g tree.atomic_sub all ty args h l =
+    let a = of_atomic (λ s. tree.integer s ∷ []) (λ s. tree.integer s) all ty args h l in
+    of_type t tree.atomic_sub args (tree.integer a.number) ty a.gives (one_changed a.number (DoesOn t tree.atomic_sub (tree.integer a.number)) (taking_does t a.number) args a.types)
+lib_does t g tree.atomic_swap all ty args h l =
+    let a = of_atomic (λ s. tree.integer s ∷ []) (λ s. tree.integer s) all ty args h l in
+    of_type t tree.atomic_swap args (tree.integer a.number) ty a.gives (one_changed a.number (DoesOn t tree.atomic_swap (tree.integer a.number)) (swapping_does t a.number) args a.types)
+lib_does t g tree.atomic_compare all ty args h l =
+    let a = of_atomic (λ s. tree.pointer (tree.integer s) ∷ tree.integer s ∷ []) (λ s. tree.integer int) all ty args h l in
+    of_type t tree.atomic_compare args (tree.integer int) ty a.gives (compare_does t a.number args a.types)
+lib_does t g tree.atomic_store all ty args h l =
+    let a = of_atomic (λ s. tree.integer s ∷ []) (λ s. tree.void) all ty args h l in
+    of_type t tree.atomic_store args tree.void ty a.gives (one_changed a.number (DoesOn t tree.atomic_store tree.void) (storing_does t a.number) args a.types)

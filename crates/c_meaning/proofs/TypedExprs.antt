@@ -21,7 +21,7 @@ use Rattle.c_meaning.specs.Values as reads
 use Rattle.c_meaning.specs.Values.{access_of_type, truth_of, int_of, Unary, Binary}
 use Rattle.c_meaning.specs.Turns.{Does, WayOfUse, after_call, variable_at, pointer_in, read_way, only_way, second_way, first_way, second_test_way, is_same, first_test_way, choice_way, argument_way, reads_variable, finds_variable, run, run_node, run_place, run_place_node, run_arguments}
 use Rattle.c_meaning.specs.Kinds.{HasKind, HasTypeIf, MayHold, TakesOne, TakesTwo, IsCalled, StandBefore, Awaits}
-use Rattle.c_meaning.proofs.TypedValues.{not_c4, Anything, kind_type, type_kind, truth_ok, of_one_ok, of_two_ok, number_operands, on_numbers_taken, forward_taken, backward_taken, distance_taken, on_pointers_taken, converts_taken, converts_scalar, integer_scalar, pointer_scalar, pointer_access, sized_pointer, moved_scalar}
+use Rattle.c_meaning.proofs.TypedValues.{not_c4, Anything, kind_type, type_kind, truth_ok, of_one_ok, of_two_ok, number_operands, on_numbers_taken, forward_taken, backward_taken, distance_taken, on_pointers_taken, converts_taken, converts_values, HasValues, scalar_values, integer_scalar, pointer_scalar, pointer_access, sized_pointer, moved_scalar}
 use Rattle.c_meaning.proofs.TypedLocals.{Site, here_at, inside_at, Stands, hold_at}
 use Rattle.c_meaning.proofs.TypedActions.{load_done}
 use Rattle.c_meaning.proofs.TypedCalls.{called_scalar, called_typed, first_typed, first_scalar, leaves_fewer}
@@ -43,7 +43,7 @@ kind_at e = access_of_type (tree.type_of e)
 
 -- ---- uses of a value in an expression
 
-pub read_takes : (s : Site) (place : ℕ) (ty : tree.Ty) (w : Answer → WayOfUse) → Stands s → IsScalar ty → TakesKind s (access_of_type ty) w → TakesKind s accesses.Pointer (λ answer. read_way (here_at s answer) place (access_of_type ty) (w answer))
+pub read_takes : (s : Site) (place : ℕ) (ty : tree.Ty) (w : Answer → WayOfUse) → Stands s → HasValues ty → TakesKind s (access_of_type ty) w → TakesKind s accesses.Pointer (λ answer. read_way (here_at s answer) place (access_of_type ty) (w answer))
 read_takes s place ty w f scalar g = record {
   expects = λ answer. (refl, g.expects answer);
   goes = λ v h x n.
@@ -97,16 +97,16 @@ choice_takes s place how one other run_one run_other w t u scalar same p q g = r
 
 -- ---- locals
 
-reads_fine : (s : Site) (place : ℕ) (l : tree.Local) (w : Answer → WayOfUse) (v : Variable) → Stands s → IsScalar l.ty → MayHold l v → TakesKind s (access_of_type l.ty) w → IsFine s (λ answer. reads_variable (here_at s answer) place l.ty (w answer) v)
+reads_fine : (s : Site) (place : ℕ) (l : tree.Local) (w : Answer → WayOfUse) (v : Variable) → Stands s → HasValues l.ty → MayHold l v → TakesKind s (access_of_type l.ty) w → IsFine s (λ answer. reads_variable (here_at s answer) place l.ty (w answer) v)
 reads_fine s place l w control.unset f scalar h g x n = breaks_fine s C4 place not_c4
 reads_fine s place l w (control.holds v) f scalar h g x n = g.goes v (type_kind l.ty v h.1) x n
 reads_fine s place l w (control.lies block) f scalar h g x n = (read_takes s place l.ty w f scalar g).goes (block_value block) tt x n
 
-local_fine : (s : Site) (place number : ℕ) (ty : tree.Ty) → Stands s → IsNth s.func.locals number (λ l. l.ty ≡ ty) → IsScalar ty → Evaluates s (access_of_type ty) (λ answer w x. reads_variable (here_at s answer) place ty w (variable_at x number) x)
+local_fine : (s : Site) (place number : ℕ) (ty : tree.Ty) → Stands s → IsNth s.func.locals number (λ l. l.ty ≡ ty) → HasValues ty → Evaluates s (access_of_type ty) (λ answer w x. reads_variable (here_at s answer) place ty w (variable_at x number) x)
 local_fine s place number ty f l scalar w g x n =
     let is : l.0.ty ≡ ty = l.2 in
     let P : tree.Ty → Type 0 = λ z. Fine s (λ answer. reads_variable (here_at s answer) place z (w answer) (variable_at x number) x) in
-    subst P is (reads_fine s place l.0 w (variable_at x number) f (subst IsScalar (sym is) scalar) (hold_at s.func.locals x.locals number l.0 n.locals l.1)
+    subst P is (reads_fine s place l.0 w (variable_at x number) f (subst HasValues (sym is) scalar) (hold_at s.func.locals x.locals number l.0 n.locals l.1)
     (subst (λ z. TakesKind s (access_of_type z) w) (sym is) g) x n)
 
 finds_fine : (s : Site) (place : ℕ) (w : Answer → WayOfUse) (v : Variable) → TakesKind s accesses.Pointer w → IsFine s (λ answer. finds_variable place (w answer) v)
@@ -122,7 +122,7 @@ pub argument_takes : (s : Site) (place : ℕ) (callee : Callee) (before : List V
     → TakesKind s (kind_at e) (λ answer. argument_way place callee before rest (run_rest answer) (k answer))
 argument_takes s place callee before e rest all ty run_rest k c l scalar waits r = record {
   expects = λ answer. (ty, e, all, c, l, refl, waits answer);
-  goes = λ v h x n. r (before ++ v ∷ []) (leaves_fewer before v e rest all l (kind_type (tree.type_of e) v scalar h)) x n;
+  goes = λ v h x n. r (before ++ v ∷ []) (leaves_fewer before v e rest all l (kind_type (tree.type_of e) v (scalar_values (tree.type_of e) scalar) h)) x n;
 }
 
 -- ---- kinds that are the same
@@ -153,9 +153,13 @@ binary_fine s place op a b to u j takes p q w g x n =
 mutual
   -- an expression gives a value of its type
   pub run_fine : (s : Site) → Stands s → (e : tree.Expr) → IsTyped (context_at s) e → IsScalar (tree.type_of e) → Evaluates s (kind_at e) (λ answer. run (here_at s answer) e)
-  run_fine s f (tree.at place ty node) t scalar w g x n = run_node_fine s f place ty node t scalar w g x n
+  run_fine s f (tree.at place ty node) t scalar w g x n = run_node_fine s f place ty node t (scalar_values ty scalar) w g x n
 
-  pub run_node_fine : (s : Site) → Stands s → (place : ℕ) (ty : tree.Ty) (node : tree.ExprNode) → IsTypedNode (context_at s) ty node → IsScalar ty → Evaluates s (access_of_type ty) (λ answer. run_node (here_at s answer) place ty node)
+  -- and an object of an atomic type the number in it
+  run_values_fine : (s : Site) → Stands s → (e : tree.Expr) → IsTyped (context_at s) e → HasValues (tree.type_of e) → Evaluates s (kind_at e) (λ answer. run (here_at s answer) e)
+  run_values_fine s f (tree.at place ty node) t values w g x n = run_node_fine s f place ty node t values w g x n
+
+  pub run_node_fine : (s : Site) → Stands s → (place : ℕ) (ty : tree.Ty) (node : tree.ExprNode) → IsTypedNode (context_at s) ty node → HasValues ty → Evaluates s (access_of_type ty) (λ answer. run_node (here_at s answer) place ty node)
   run_node_fine s f place ty (tree.num t z) h scalar w g x n = g.goes (number_value t z) (subst (λ u. HasKind (access_of_type u) (number_value t z)) (sym h.0) refl) x n
   run_node_fine s f place ty tree.null h scalar w g x n = g.goes (values.Pointer Null) (subst (λ a. HasKind a (values.Pointer Null)) (sym (pointer_access ty h)) tt) x n
   run_node_fine s f place ty (tree.literal number) h scalar w g x n = (read_takes s place ty w f scalar g).goes (block_value (length s.typed.globals + number)) tt x n
@@ -174,7 +178,7 @@ mutual
   run_node_fine s f place ty (tree.decay e) h scalar w g x n =
       run_place_fine s f e h.0 (in_memory_lvalue (context_at s) (tree.node_of e) h.1) w (takes_as s (access_of_type ty) accesses.Pointer w (ap access_of_type h.2.3) g) x n
   run_node_fine s f place ty (tree.convert e) h scalar w g x n =
-      run_fine s f e h.0 (converts_scalar (tree.type_of e) ty h.1 scalar) (λ answer. only_way place (reads.converts ty) (w answer))
+      run_values_fine s f e h.0 (converts_values (tree.type_of e) ty h.1 scalar) (λ answer. only_way place (reads.converts ty) (w answer))
       (only_takes s place (reads.converts ty) (kind_at e) (access_of_type ty) w (converts_taken (tree.type_of e) ty h.1 scalar) g) x n
   run_node_fine s f place ty (tree.not_ e) h scalar w g x n =
       run_fine s f e h.0 h.1 (λ answer. only_way place reads.negates (w answer)) (only_takes s place reads.negates (kind_at e) (access_of_type ty) w (ap access_of_type h.2) g) x n
@@ -189,8 +193,8 @@ mutual
       run_fine s f a h.0 h.2 (λ answer. first_test_way (tree.place_of a) true b (run (here_at s answer) b) (w answer))
       (first_test_takes s (tree.place_of a) true (kind_at a) b (λ answer. run (here_at s answer) b) w h.1 h.3 (run_fine s f b h.1 h.3) (takes_as s (access_of_type ty) (accesses.Number int) w (ap access_of_type h.4) g)) x n
   run_node_fine s f place ty (tree.choose c a b) h scalar w g x n =
-      let one = subst IsScalar (sym h.5) scalar in
-      let other = subst IsScalar (sym h.6) scalar in
+      let one = subst IsScalar (sym h.5) (integer_scalar ty h.4) in
+      let other = subst IsScalar (sym h.6) (integer_scalar ty h.4) in
       run_fine s f c h.0 h.3 (λ answer. choice_way (tree.place_of c) a b (run (here_at s answer) a) (run (here_at s answer) b) (w answer))
       (choice_takes s (tree.place_of c) (kind_at c) a b (λ answer. run (here_at s answer) a) (λ answer. run (here_at s answer) b) w h.1 h.2 one (h.6 ∙ sym h.5) (run_fine s f a h.1 one)
       (evaluates_as s (kind_at b) (kind_at a) (λ answer. run (here_at s answer) b) (ap access_of_type (h.6 ∙ sym h.5)) (run_fine s f b h.2 other))

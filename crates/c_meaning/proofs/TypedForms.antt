@@ -1,12 +1,14 @@
 -- What well formed trees say of types where a value is assigned, returned or dropped.
-use Rattle.std.proofs.Common.{◌≡◌, ℕ, true, false, List, Some, refl, sym, ap, subst, ◌∙◌}
+use Rattle.std.proofs.Common.{◌≡◌, ℕ, true, false, List, [], ◌∷◌, Some, refl, sym, ap, subst, ◌∙◌}
 use Rattle.std.specs.Prelude.{slice_get}
+use Rattle.ak_words.specs.declared.int_type.IntType.{IntType}
 use Rattle.ak_words.specs.declared.operation.Op.{Op}
+use Rattle.ak_words.specs.IntType.{int}
 use Rattle.c_tree.specs.Typed as tree
-use Rattle.c_tree.specs.TypedForm.{IsInteger, IsScalar, Fits, MovesPointer, type_of_result, Converts, IsLvalue, IsLibCall, IsTyped, IsTypedNode, InScope, IsResult, IsFunc, IsLocal}
+use Rattle.c_tree.specs.TypedForm.{IsInteger, IsScalar, Fits, MovesPointer, type_of_result, Converts, IsLvalue, IsAtomicCall, IsLibCall, IsTyped, IsTypedNode, InScope, IsResult, IsFunc, IsLocal}
 use Rattle.c_meaning.specs.Values.{is_scalar}
 use Rattle.c_meaning.specs.Turns.{is_struct}
-use Rattle.c_meaning.proofs.TypedValues.{number_operands, integer_scalar, pointer_scalar, sized_pointer}
+use Rattle.c_meaning.proofs.TypedValues.{HasValues, number_operands, integer_scalar, pointer_scalar, sized_pointer}
 use Rattle.c_meaning.proofs.TypedLocals.{Site, Stands, at_number, inside_at}
 use Rattle.c_meaning.proofs.TypedCalls.{called_func}
 
@@ -21,6 +23,7 @@ local_scalar s f number l e m = (at_number (IsLocal s.typed.structs) s.func.loca
 
 pub returned_scalar : (s result : tree.Ty) → IsResult result → Fits s result → IsScalar result
 returned_scalar (tree.integer s) (tree.integer t) r f = tt
+returned_scalar (tree.integer s) (tree.atomic t) r f = elim r [ ]
 returned_scalar (tree.pointer s) (tree.pointer t) r f = tt
 returned_scalar (tree.structure m) (tree.structure n) r f = elim r [ ]
 returned_scalar s t r f = elim f [ ]
@@ -29,12 +32,14 @@ returned_scalar s t r f = elim f [ ]
 
 pub fits_struct : (s t : tree.Ty) → Fits s t → is_struct t ≡ true → is_struct s ≡ true
 fits_struct (tree.integer s) (tree.integer t) f e = absurd cc
+fits_struct (tree.integer s) (tree.atomic t) f e = absurd cc
 fits_struct (tree.pointer s) (tree.pointer t) f e = absurd cc
 fits_struct (tree.structure m) (tree.structure n) f e = refl
 fits_struct s t f e = elim f [ ]
 
 pub fits_no_struct : (s t : tree.Ty) → Fits s t → is_struct t ≡ false → IsScalar s
 fits_no_struct (tree.integer s) (tree.integer t) f e = tt
+fits_no_struct (tree.integer s) (tree.atomic t) f e = tt
 fits_no_struct (tree.pointer s) (tree.pointer t) f e = tt
 fits_no_struct (tree.structure m) (tree.structure n) f e = absurd cc
 fits_no_struct s t f e = elim f [ ]
@@ -54,6 +59,7 @@ result_no_struct ty h = elim h [ ]
 converts_no_struct : (s ty : tree.Ty) → Converts s ty → is_struct ty ≡ false
 converts_no_struct s tree.void h = refl
 converts_no_struct (tree.integer s) (tree.integer t) h = refl
+converts_no_struct (tree.atomic s) (tree.integer t) h = refl
 converts_no_struct (tree.pointer s) (tree.pointer t) h = refl
 converts_no_struct s t h = elim h [ ]
 
@@ -69,6 +75,10 @@ moved_result structs a b ty h = elim h [ ]
 same_struct : (ty t : tree.Ty) → ty ≡ t → is_struct t ≡ false → is_struct ty ≡ false
 same_struct ty t e n = ap is_struct e ∙ n
 
+atomic_no_struct : (others : IntType → List tree.Ty) (result : IntType → tree.Ty) (all : tree.Exprs) (ty : tree.Ty) → ((t : IntType) → is_struct (result t) ≡ false) → IsAtomicCall others result all ty → is_struct ty ≡ false
+atomic_no_struct others result tree.no_exprs ty n h = elim h [ ]
+atomic_no_struct others result (tree.more_exprs e rest) ty n h = same_struct ty (result h.0) h.4 (n h.0)
+
 lib_no_struct : (c : InScope) (which : tree.Lib) (all : tree.Exprs) (ty : tree.Ty) → IsLibCall c which all ty → is_struct ty ≡ false
 lib_no_struct c (tree.print pieces) all ty h = ap is_struct h.1
 lib_no_struct c tree.malloc all ty h = ap is_struct h.1
@@ -82,6 +92,11 @@ lib_no_struct c tree.mutex_init all ty h = ap is_struct h.1
 lib_no_struct c tree.mutex_lock all ty h = ap is_struct h.1
 lib_no_struct c tree.mutex_unlock all ty h = ap is_struct h.1
 lib_no_struct c tree.mutex_destroy all ty h = ap is_struct h.1
+lib_no_struct c tree.atomic_add all ty h = atomic_no_struct (λ s. tree.integer s ∷ []) (λ s. tree.integer s) all ty (λ t. refl) h
+lib_no_struct c tree.atomic_sub all ty h = atomic_no_struct (λ s. tree.integer s ∷ []) (λ s. tree.integer s) all ty (λ t. refl) h
+lib_no_struct c tree.atomic_swap all ty h = atomic_no_struct (λ s. tree.integer s ∷ []) (λ s. tree.integer s) all ty (λ t. refl) h
+lib_no_struct c tree.atomic_compare all ty h = atomic_no_struct (λ s. tree.pointer (tree.integer s) ∷ tree.integer s ∷ []) (λ s. tree.integer int) all ty (λ t. refl) h
+lib_no_struct c tree.atomic_store all ty h = atomic_no_struct (λ s. tree.integer s ∷ []) (λ s. tree.void) all ty (λ t. refl) h
 
 -- ---- what is no object is a number, a pointer, or nothing
 
@@ -100,6 +115,7 @@ IsPlain ty node = Unit {0}
 converted_scalar : (s ty : tree.Ty) (e : tree.Expr) → Converts s ty → IsPlain ty (tree.convert e) → IsScalar ty
 converted_scalar s tree.void e h p = elim p [ ]
 converted_scalar (tree.integer s) (tree.integer t) e h p = tt
+converted_scalar (tree.atomic s) (tree.integer t) e h p = tt
 converted_scalar (tree.pointer s) (tree.pointer t) e h p = tt
 converted_scalar s t e h p = elim h [ ]
 
@@ -155,8 +171,9 @@ struct_lvalue s f ty (tree.pointer_test d) h e = let n = scalar_no_struct ty (pl
 pub struct_expr_lvalue : (s : Site) → Stands s → (e : tree.Expr) → IsTyped (inside_at s).context e → is_struct (tree.type_of e) ≡ true → IsLvalue (tree.node_of e)
 struct_expr_lvalue s f (tree.at place ty node) t h = struct_lvalue s f ty node t h
 
-pub is_scalar_type : (ty : tree.Ty) → is_scalar ty ≡ true → IsScalar ty
+pub is_scalar_type : (ty : tree.Ty) → is_scalar ty ≡ true → HasValues ty
 is_scalar_type (tree.integer t) e = tt
+is_scalar_type (tree.atomic t) e = tt
 is_scalar_type (tree.pointer t) e = tt
 is_scalar_type tree.void e = absurd cc
 is_scalar_type tree.mutex e = absurd cc

@@ -1,28 +1,34 @@
 -- Statements come out well, and so does all that follows them.
-use Rattle.std.proofs.Common.{◌≡◌, ℕ, zero, suc, Bool, true, false, List, [], length, Option, Some, None, refl, sym, ap, subst, ◌∙◌}
+use Rattle.std.proofs.Common.{◌≡◌, ℕ, zero, suc, Bool, true, false, List, [], length, Option, Some, None, ℤ, refl, sym, ap, subst, ◌∙◌}
 use Rattle.std.specs.Prelude.{if◌then◌else◌, slice_get}
+use Rattle.ak_words.specs.declared.int_type.IntType.{IntType}
+use Rattle.ak_words.specs.declared.number.Num.{Num}
 use Rattle.ak_words.specs.declared.operation.Op.{Op}
 use Rattle.ak_words.specs.declared.rule.Rule.TheVariants.{C4}
 use Rattle.block_store.specs.declared.values.Access.{Access}
 use Rattle.block_store.specs.declared.values.Access.TheVariants as accesses
 use Rattle.block_store.specs.declared.values.Answer.{Answer}
 use Rattle.block_store.specs.declared.values.Answer.TheVariants as answers
+use Rattle.block_store.specs.declared.values.Change.TheVariants.{Add}
+use Rattle.block_store.specs.declared.values.Ptr.{Ptr}
 use Rattle.block_store.specs.declared.values.Value.{Value}
+use Rattle.block_store.specs.declared.values.Value.TheVariants as values
 use Rattle.block_store.specs.Actions as actions
 use Rattle.c_tree.specs.Typed as tree
 use Rattle.c_tree.specs.TypedLayout.{size_in, align_in}
-use Rattle.c_tree.specs.TypedForm.{IsScalar, Fits, CanUpdate, IsNth, IsLvalue, IsTyped, IsTypedNode, IfTyped, IsReturned, Jumps, in_function, in_loop, in_switch, IsSwitched, IsWell, IsWellNode, AreWell}
+use Rattle.c_tree.specs.TypedForm.{IsInteger, IsScalar, Fits, CanUpdate, IsNth, IsLvalue, IsTyped, IsTypedNode, IfTyped, IsReturned, Jumps, in_function, in_loop, in_switch, IsSwitched, IsWell, IsWellNode, AreWell}
 use Rattle.c_meaning.specs.Control as control
 use Rattle.c_meaning.specs.Control.{Variable, Loop, Update, Callee, dropped, wanted}
-use Rattle.c_meaning.specs.Values.{access_of_type, is_scalar, truth_of, updated}
+use Rattle.c_meaning.specs.Values.{access_of_type, is_scalar, is_atomic, is_minus, truth_of, updated}
+use Rattle.c_meaning.specs.Library.{addend, changed_by}
 use Rattle.c_meaning.specs.Switches.{chosen, starts_at}
-use Rattle.c_meaning.specs.Turns.{Does, Way, after_call, local_at, is_block, variable_at, with_variable, ended_local, ended_locals, made_local, declared_local, declared, declared_by, pointer_in, run, run_node, run_place, run_place_node, run_arguments, nowhere_way, drops_object, run_dropped, run_dropped_node, local_way, place_way, left_way, struct_right_way, struct_left_way, is_struct, assigns_object, assigns, update_read_way, update_right_way, update_left_way, updates_variable, update_local_way, updates, initialises, declares, caller_way, returns, if_way, nothing, row_way, end_way, round_over, step_way, body_way, loop_test_way, rounds_if, rounds, loop_way, while_loop, for_loop, do_loop, leaving, switch_way, starts, switch_test_way, update_of, run_stmt, run_stmt_node, run_row, run_from}
+use Rattle.c_meaning.specs.Turns.{Does, Way, after_call, local_at, is_block, variable_at, with_variable, ended_local, ended_locals, made_local, declared_local, declared, declared_by, pointer_in, run, run_node, run_place, run_place_node, run_arguments, nowhere_way, drops_object, run_dropped, run_dropped_node, local_way, place_way, left_way, struct_right_way, struct_left_way, is_struct, assigns_object, assigns, update_read_way, update_reads, update_changes, update_right_way, update_left_way, updates_variable, update_local_way, updates, initialises, declares, caller_way, returns, if_way, nothing, row_way, end_way, round_over, step_way, body_way, loop_test_way, rounds_if, rounds, loop_way, while_loop, for_loop, do_loop, leaving, switch_way, starts, switch_test_way, update_of, run_stmt, run_stmt_node, run_row, run_from}
 use Rattle.c_meaning.specs.Kinds.{HasKind, HasTypeIf, MayHold, UpdatesBy, IsNumberKind, IsCalled, IsWellSomewhere, AreWellSomewhere, IsTypedLoop}
-use Rattle.c_meaning.proofs.TypedValues.{not_c4, Anything, kind_type, type_kind, fits_kind, truth_ok, updated_ok, updates_scalar}
+use Rattle.c_meaning.proofs.TypedValues.{not_c4, Anything, scalar_values, kind_type, type_kind, fits_kind, truth_ok, updated_ok, updates_scalar, updates_plain, updates_number}
 use Rattle.c_meaning.proofs.TypedLocals.{Site, here_at, inside_at, Stands, hold_at, with_now, unset_now, ended_locals_now, local_found, made_now, declared_now}
-use Rattle.c_meaning.proofs.TypedActions.{IsNoValue, load_done, store_done, copy_done}
+use Rattle.c_meaning.proofs.TypedActions.{IsNoValue, load_done, store_done, copy_done, change_done}
 use Rattle.c_meaning.proofs.TypedCalls.{fits_scalar}
-use Rattle.c_meaning.proofs.TypedTurns.{TakesKind, IsFine, Follows, Executes, breaks_fine, ok_fine, if_fine, plainly_fine, stays_at, stays_typed, acts_fine, after_typed, leaves_fine}
+use Rattle.c_meaning.proofs.TypedTurns.{Fine, TakesKind, IsFine, Follows, Executes, breaks_fine, ok_fine, if_fine, plainly_fine, stays_at, stays_typed, acts_fine, after_typed, leaves_fine}
 use Rattle.c_meaning.proofs.TypedExprs.{context_at, block_value, kind_at, run_fine, run_node_fine, run_place_fine, run_place_node_fine, run_arguments_fine}
 use Rattle.c_meaning.proofs.TypedForms.{func_well, local_scalar, returned_scalar, fits_struct, fits_no_struct, IsPlain, plain_scalar, struct_expr_lvalue, is_scalar_type}
 
@@ -52,7 +58,7 @@ register_holds s f number how r v h l e =
     let memory : r.0.in_memory ≡ false = r.2.0 in
     let kind : HasKind (access_of_type r.0.ty) v = subst (λ (a : Access). HasKind a v) (sym r.2.1) h in
     let P : tree.Local → Type 0 = λ m. MayHold m (control.holds v) in
-    subst P same (memory, kind_type r.0.ty v (local_scalar s f number r.0 r.1 memory) kind)
+    subst P same (memory, kind_type r.0.ty v (scalar_values r.0.ty (local_scalar s f number r.0 r.1 memory)) kind)
 
 pub local_takes : (s : Site) (number : ℕ) (how : Access) (w : Answer → Way) → Stands s → IsRegister s number how → Follows s w → TakesKind s how (λ answer. local_way number (w answer))
 local_takes s number how w f r g = record {
@@ -127,25 +133,51 @@ assign_fine s (tree.at place ty node) right f t u l fit = assigns_fine s place t
 by_kind : (s : Site) (u : Update) (how : Access) (can : UpdatesBy (inside_at s) u how) (v : Value) → HasKind how v → HasKind (access_of_type can.0) v
 by_kind s u how can v h = subst (λ (a : Access). HasKind a v) (sym can.2) h
 
-pub update_read_takes : (s : Site) (u : Update) (at by : Value) (how : Access) (w : Answer → Way) → Stands s → HasKind accesses.Pointer at → UpdatesBy (inside_at s) u how → HasKind how by → Follows s w → TakesKind s (access_of_type u.ty) (λ answer. update_read_way (here_at s answer) u at by (w answer))
-update_read_takes s u at by how w f p can b g = record {
-  expects = λ answer. (refl, p, (how, can, b), g.todo answer);
+pub update_read_takes : (s : Site) (u : Update) (at by : Value) (how : Access) (w : Answer → Way) → Stands s → IsScalar u.ty → HasKind accesses.Pointer at → UpdatesBy (inside_at s) u how → HasKind how by → Follows s w → TakesKind s (access_of_type u.ty) (λ answer. update_read_way (here_at s answer) u at by (w answer))
+update_read_takes s u at by how w f plain p can b g = record {
+  expects = λ answer. (plain, refl, p, (how, can, b), g.todo answer);
   goes = λ v h x n. ok_fine s u.operator (HasKind (access_of_type u.ty)) (λ answer r. (place_way (here_at s answer) u.place at (w answer)).go r x) (updated s.typed.structs x.world.blocks u.ty u.op v by)
-      (updated_ok s.typed.structs x.world.blocks u.op u.ty can.0 v by can.1 h (by_kind s u how can by b)) (λ r i. (place_takes s u.place at (access_of_type u.ty) w f p g).goes r i x n);
+      (updated_ok s.typed.structs x.world.blocks u.op u.ty can.0 v by plain can.1 h (by_kind s u how can by b)) (λ r i. (place_takes s u.place at (access_of_type u.ty) w f p g).goes r i x n);
 }
+
+update_reads_fine : (s : Site) (u : Update) (at by : Value) (how : Access) (w : Answer → Way) → Stands s → IsScalar u.ty → HasKind accesses.Pointer at → UpdatesBy (inside_at s) u how → HasKind how by → Follows s w → IsFine s (λ answer. update_reads (here_at s answer) u at by (w answer))
+update_reads_fine s u at by how w f plain p can b g =
+    acts_fine s u.place (actions.load (pointer_in at) (access_of_type u.ty)) (HasTypeIf u.ty) (λ answer r. after_call (wanted u.place (control.update_read u at by (w answer).k)) r) f
+    (λ world answer i. load_done s.typed u.ty world s.thread answer (pointer_in at) (scalar_values u.ty plain) i)
+    (λ answer r i. after_typed s u.ty (wanted u.place (control.update_read u at by (w answer).k)) r (plain, refl, p, (how, can, b), g.todo answer) i)
+
+-- a value of a number's type
+number_of_kind : (ty : tree.Ty) (v : Value) → IsInteger ty → HasKind (access_of_type ty) v → (n : Num) × (v ≡ values.Num n)
+number_of_kind (tree.integer t) (values.Num n) i h = (n, refl)
+number_of_kind (tree.integer t) (values.Pointer p) i h = elim h [ ]
+number_of_kind ty v i h = elim i [ ]
+
+changes_fine : (s : Site) (u : Update) (ty : IntType) (at : Ptr) (by : ℤ) (w : Answer → Way) → Stands s → Follows s w → IsFine s (λ answer. update_changes (here_at s answer) u (w answer) (Some (actions.change at ty Add by)))
+changes_fine s u ty at by w f g =
+    acts_fine s u.place (actions.change at ty Add by) (HasTypeIf (tree.integer ty)) (λ answer old. control.begins (w answer).k) f
+    (λ world answer i. change_done s.typed ty world s.thread answer at Add by i) (λ answer old i. g.todo answer)
+
+update_changes_fine : (s : Site) (u : Update) (away : Bool) (at : Ptr) (n : Num) (w : Answer → Way) → Stands s → Follows s w → IsFine s (λ answer. update_changes (here_at s answer) u (w answer) (changed_by away at (values.Num n)))
+update_changes_fine s u away at n w f g = changes_fine s u (addend away n).ty at (addend away n).value w f g
 
 pub update_right_takes : (s : Site) (u : Update) (at : Value) (how : Access) (w : Answer → Way) → Stands s → HasKind accesses.Pointer at → UpdatesBy (inside_at s) u how → Follows s w → TakesKind s how (λ answer. update_right_way (here_at s answer) u at (w answer))
 update_right_takes s u at how w f p can g = record {
   expects = λ answer. (p, can, g.todo answer);
-  goes = λ v h x n. acts_fine s u.place (actions.load (pointer_in at) (access_of_type u.ty)) (HasTypeIf u.ty) (λ answer r. after_call (wanted u.place (control.update_read u at v (w answer).k)) r) f
-      (λ world answer i. load_done s.typed u.ty world s.thread answer (pointer_in at) (updates_scalar s.typed.structs u.op u.ty can.0 can.1).0 i)
-      (λ answer r i. after_typed s u.ty (wanted u.place (control.update_read u at v (w answer).k)) r (refl, p, (how, can, h), g.todo answer) i) x n;
+  goes = λ v h x n.
+      let structs = s.typed.structs in
+      let away = is_minus u.op in
+      if_fine s (is_atomic u.ty) (λ answer. update_changes (here_at s answer) u (w answer) (changed_by away (pointer_in at) v) x) (λ answer. update_reads (here_at s answer) u at v (w answer) x)
+      (λ b.
+      let number = number_of_kind can.0 v (updates_number structs u.op u.ty can.0 can.1 b) (by_kind s u how can v h) in
+      let P : Value → Type 0 = λ z. Fine s (λ answer. update_changes (here_at s answer) u (w answer) (changed_by away (pointer_in at) z) x) in
+      subst P (sym number.1) (update_changes_fine s u away (pointer_in at) number.0 w f g x n))
+      (λ b. update_reads_fine s u at v how w f (updates_plain structs u.op u.ty can.0 can.1 b) p can h g x n);
 }
 
 pub update_left_takes : (s : Site) (u : Update) (right : tree.Expr) (w : Answer → Way) → Stands s → IsTyped (context_at s) right → CanUpdate s.typed.structs u.op u.ty (tree.type_of right) → Follows s w → TakesKind s accesses.Pointer (λ answer. update_left_way (here_at s answer) u right (w answer))
 update_left_takes s u right w f t can g = record {
   expects = λ answer. (refl, t, can, g.todo answer);
-  goes = λ v h x n. run_fine s f right t (updates_scalar s.typed.structs u.op u.ty (tree.type_of right) can).1 (λ answer. update_right_way (here_at s answer) u v (w answer))
+  goes = λ v h x n. run_fine s f right t (updates_scalar s.typed.structs u.op u.ty (tree.type_of right) can) (λ answer. update_right_way (here_at s answer) u v (w answer))
       (update_right_takes s u v (kind_at right) w f h (tree.type_of right, can, refl) g) x n;
 }
 
@@ -165,7 +197,7 @@ updates_variable_fine s u number by how w control.unset f r can b h g x n = brea
 updates_variable_fine s u number by how w (control.lies block) f r can b h g x n = breaks_fine s C4 u.place not_c4
 updates_variable_fine s u number by how w (control.holds v) f r can b h g x n =
     ok_fine s u.operator (HasKind (access_of_type u.ty)) (λ answer z. (w answer).end (with_variable number (control.holds z) x)) (updated s.typed.structs x.world.blocks u.ty u.op v by)
-    (updated_ok s.typed.structs x.world.blocks u.op u.ty can.0 v by can.1 (held_kind r.0 u.ty v r.2.1 h) (by_kind s u how can by b))
+    (updated_ok s.typed.structs x.world.blocks u.op u.ty can.0 v by (subst IsScalar r.2.1 (local_scalar s f number r.0 r.1 r.2.0)) can.1 (held_kind r.0 u.ty v r.2.1 h) (by_kind s u how can by b))
     (λ z i. g.ends (with_variable number (control.holds z) x) (with_now s number (control.holds z) x n (register_holds s f number (access_of_type u.ty) (updated_register s number u r) z i)))
 
 pub update_local_takes : (s : Site) (u : Update) (number : ℕ) (how : Access) (w : Answer → Way) → Stands s → IsUpdated s number u → UpdatesBy (inside_at s) u how → Follows s w → TakesKind s how (λ answer. update_local_way (here_at s answer) u number (w answer))
@@ -184,7 +216,7 @@ updates_local_fine s u place number right f t v can w g =
     let left = tree.at place u.ty (tree.local number) in
     does_if_fine s (is_block (local_at (here_at s answers.Plain) number)) (λ answer. run_place (here_at s answer) left (update_left_way (here_at s answer) u right (w answer))) (λ answer. run (here_at s answer) right (update_local_way (here_at s answer) u number (w answer)))
     (λ b. updates_object_fine s u left right f t v tt can w g)
-    (λ b. run_fine s f right v (updates_scalar s.typed.structs u.op u.ty (tree.type_of right) can).1 (λ answer. update_local_way (here_at s answer) u number (w answer))
+    (λ b. run_fine s f right v (updates_scalar s.typed.structs u.op u.ty (tree.type_of right) can) (λ answer. update_local_way (here_at s answer) u number (w answer))
     (update_local_takes s u number (kind_at right) w f (t.0, t.1, (in_memory_is s f number false t.0 t.1 b, t.2)) (tree.type_of right, can, refl) g))
 
 updates_fine : (s : Site) (u : Update) (place : ℕ) (node : tree.ExprNode) (right : tree.Expr) → Stands s → IsTypedNode (context_at s) u.ty node → IsTyped (context_at s) right → IsLvalue node → CanUpdate s.typed.structs u.op u.ty (tree.type_of right)
@@ -218,7 +250,7 @@ declares_fine s place number (Some init) f l w g x n = initialises_fine s place 
 -- ---- returns
 
 pub caller_takes : (s : Site) → Stands s → IsScalar s.func.result → TakesKind s (access_of_type s.func.result) (λ answer. caller_way (here_at s answer))
-caller_takes s f scalar = record { expects = λ answer. (scalar, refl); goes = λ v h x n. leaves_fine s (Some v) f (kind_type s.func.result v scalar h) x n }
+caller_takes s f scalar = record { expects = λ answer. (scalar, refl); goes = λ v h x n. leaves_fine s (Some v) f (kind_type s.func.result v (scalar_values s.func.result scalar) h) x n }
 
 returns_fine : (s : Site) (value : Option tree.Expr) → Stands s → IsReturned (context_at s) s.func.result value → IsFine s (λ answer. returns (here_at s answer) value)
 returns_fine s None f h x n = leaves_fine s None f tt x n
@@ -236,7 +268,7 @@ drops_object_fine s place ty node f t l w g x n =
     (λ b. run_place_node_fine s f place ty node t l (λ answer. nowhere_way (w answer)) (nowhere_takes s accesses.Pointer w g) x n)
 
 plain_fine : (s : Site) (place : ℕ) (ty : tree.Ty) (node : tree.ExprNode) → Stands s → IsTypedNode (context_at s) ty node → IsPlain ty node → Executes s (λ answer w. run_node (here_at s answer) place ty node (nowhere_way w))
-plain_fine s place ty node f t p w g = run_node_fine s f place ty node t (plain_scalar (context_at s) ty node t p) (λ answer. nowhere_way (w answer)) (nowhere_takes s (access_of_type ty) w g)
+plain_fine s place ty node f t p w g = run_node_fine s f place ty node t (scalar_values ty (plain_scalar (context_at s) ty node t p)) (λ answer. nowhere_way (w answer)) (nowhere_takes s (access_of_type ty) w g)
 
 call_dropped_fine : (s : Site) (place : ℕ) (callee : Callee) (all : tree.Exprs) (ty : tree.Ty) → Stands s → IsCalled (context_at s) callee all ty → Executes s (λ answer w. run_arguments (here_at s answer) place callee all [] (dropped w.k))
 call_dropped_fine s place callee all ty f c w g = run_arguments_fine s f place callee all ty all [] (λ answer. dropped (w answer).k) c refl g.todo
@@ -250,6 +282,7 @@ mutual
   dropped_node_fine s f place ty (tree.lib which args) t w g x n = call_dropped_fine s place (control.library which) args ty f t w g x n
   dropped_node_fine s f place tree.void (tree.convert e) t w g x n = dropped_fine s f e t.0 w g x n
   dropped_node_fine s f place (tree.integer i) (tree.convert e) t w g x n = plain_fine s place (tree.integer i) (tree.convert e) f t tt w g x n
+  dropped_node_fine s f place (tree.atomic i) (tree.convert e) t w g x n = plain_fine s place (tree.atomic i) (tree.convert e) f t tt w g x n
   dropped_node_fine s f place tree.mutex (tree.convert e) t w g x n = plain_fine s place tree.mutex (tree.convert e) f t tt w g x n
   dropped_node_fine s f place (tree.pointer to) (tree.convert e) t w g x n = plain_fine s place (tree.pointer to) (tree.convert e) f t tt w g x n
   dropped_node_fine s f place (tree.array of size) (tree.convert e) t w g x n = plain_fine s place (tree.array of size) (tree.convert e) f t tt w g x n

@@ -91,7 +91,7 @@ use_takes s f (control.update_left u right k) how t =
 use_takes s f (control.update_local u number k) how t = update_local_takes s u number how (λ answer. way_of (here_at s answer) k) f t.0 t.1 (way_follows s f k t.2)
 use_takes s f (control.update_right u at k) how t = update_right_takes s u at how (λ answer. way_of (here_at s answer) k) f t.0 t.1 (way_follows s f k t.2)
 use_takes s f (control.update_read u at by k) how t =
-    takes_of s how (access_of_type u.ty) (λ answer. use_of (here_at s answer) (control.update_read u at by k)) t.0 (update_read_takes s u at by t.2.0 (λ answer. way_of (here_at s answer) k) f t.1 t.2.1 t.2.2 (way_follows s f k t.3))
+    takes_of s how (access_of_type u.ty) (λ answer. use_of (here_at s answer) (control.update_read u at by k)) t.1 (update_read_takes s u at by t.3.0 (λ answer. way_of (here_at s answer) k) f t.0 t.2 t.3.1 t.3.2 (way_follows s f k t.4))
 use_takes s f (control.if_test place one other k) how t =
     if_takes s place one other how (λ answer. run_stmt (here_at s answer) one) (λ answer. run_stmt (here_at s answer) other) (λ answer. way_of (here_at s answer) k) t.0 t.1
     (stmt_fine s f t.0.0 one t.0.1) (stmt_fine s f t.1.0 other t.1.1) (way_follows s f k t.2)

@@ -22,7 +22,7 @@ use Rattle.block_store.specs.Pointers as pointers
 use Rattle.block_store.specs.Pointers.{within, moved_in, moved, indexed, is_usable, is_other_than_null, tested, by_distance, is_below_0, related, compared, in_elements, difference}
 use Rattle.c_tree.specs.Typed as tree
 use Rattle.c_tree.specs.TypedForm.{IsInteger, IsPointer, IsScalar, Fits, PointsToSized, MovesPointer, AreOperands, type_of_result, CanUpdate, Converts}
-use Rattle.c_meaning.specs.Values.{Unary, converts, negates, tests, selects, Binary, on_numbers, forward, backward, distance, on_pointers, access_of_type, element_size, int_of, value_of, pointer_of, int_result, long_result, truth_of, opposite, selected, of_one, of_two, operand_types, computed, converted_result, updated}
+use Rattle.c_meaning.specs.Values.{is_atomic, Unary, converts, negates, tests, selects, Binary, on_numbers, forward, backward, distance, on_pointers, access_of_type, element_size, int_of, value_of, pointer_of, int_result, long_result, truth_of, opposite, selected, of_one, of_two, operand_types, computed, converted_result, updated}
 use Rattle.c_meaning.specs.Kinds.{HasType, HasKind, TakesOne, TakesTwo}
 use Rattle.c_meaning.specs.Sound.{IsNotC16}
 
@@ -80,28 +80,49 @@ pointer_typed : (to : tree.Ty) (v : Value) → HasKind accesses.Pointer v → Ha
 pointer_typed to (values.Num n) h = h
 pointer_typed to (values.Pointer p) h = h
 
-pub kind_type : (ty : tree.Ty) (v : Value) → IsScalar ty → HasKind (access_of_type ty) v → HasType ty v
+-- a type whose objects have values: a number, also an atomic one, or a pointer
+abbrev pub HasValues : tree.Ty → Type 0
+HasValues (tree.integer t) = Unit {0}
+HasValues (tree.atomic t) = Unit {0}
+HasValues (tree.pointer to) = Unit {0}
+HasValues ty = ⊥
+
+pub scalar_values : (ty : tree.Ty) → IsScalar ty → HasValues ty
+scalar_values (tree.integer t) h = tt
+scalar_values (tree.pointer to) h = tt
+scalar_values ty h = elim h [ ]
+
+atomic_there : (t : IntType) (v : Value) → HasKind (accesses.Number t) v → HasType (tree.atomic t) v
+atomic_there t (values.Num n) h = h
+atomic_there t (values.Pointer p) h = h
+
+pub kind_type : (ty : tree.Ty) (v : Value) → HasValues ty → HasKind (access_of_type ty) v → HasType ty v
 kind_type (tree.integer t) v s h = number_there t v h
+kind_type (tree.atomic t) v s h = atomic_there t v h
 kind_type (tree.pointer to) v s h = pointer_typed to v h
 kind_type ty v s h = elim s [ ]
 
 pub type_kind : (ty : tree.Ty) (v : Value) → HasType ty v → HasKind (access_of_type ty) v
 type_kind (tree.integer t) (values.Num n) h = h
+type_kind (tree.atomic t) (values.Num n) h = h
 type_kind (tree.pointer to) (values.Pointer p) h = h
 type_kind ty v h = elim h [ ]
 
 -- a value that fits where another type is wanted has that type too
 pub fits_kind : (s t : tree.Ty) → Fits s t → access_of_type s ≡ access_of_type t
 fits_kind (tree.integer s) (tree.integer t) f = ap accesses.Number f
+fits_kind (tree.integer s) (tree.atomic t) f = ap accesses.Number f
 fits_kind (tree.pointer s) (tree.pointer t) f = refl
 fits_kind (tree.structure m) (tree.structure n) f = refl
 fits_kind s t f = elim f [ ]
 
 pub fits_type : (s t : tree.Ty) (v : Value) → Fits s t → HasType s v → HasType t v
 fits_type (tree.integer s) (tree.integer t) (values.Num n) f h = subst (λ (u : IntType). n.ty ≡ u) f h
+fits_type (tree.integer s) (tree.atomic t) (values.Num n) f h = subst (λ (u : IntType). n.ty ≡ u) f h
 fits_type (tree.pointer s) (tree.pointer t) (values.Pointer p) f h = tt
 fits_type (tree.structure m) (tree.structure n) v f h = elim h [ ]
 fits_type (tree.integer s) (tree.integer t) v f h = elim h [ ]
+fits_type (tree.integer s) (tree.atomic t) v f h = elim h [ ]
 fits_type (tree.pointer s) (tree.pointer t) v f h = elim h [ ]
 fits_type s t v f h = elim f [ ]
 
@@ -279,17 +300,18 @@ moves_pointer structs blocks to op p n (inr e) =
     subst (λ z. OkWith (HasKind accesses.Pointer) (updated structs blocks (tree.pointer to) z (values.Pointer p) (values.Num n))) (sym e) (indexed_ok blocks p (neg_ℤ n.value) (element_size structs (tree.pointer to)))
 
 -- a compound assignment of values of the types that it takes
-pub updated_ok : (structs : List tree.Layout) (blocks : Blocks) (op : Op) (s t : tree.Ty) (v w : Value) → CanUpdate structs op s t → HasKind (access_of_type s) v → HasKind (access_of_type t) w
+pub updated_ok : (structs : List tree.Layout) (blocks : Blocks) (op : Op) (s t : tree.Ty) (v w : Value) → IsScalar s → CanUpdate structs op s t → HasKind (access_of_type s) v → HasKind (access_of_type t) w
     → OkWith (HasKind (access_of_type s)) (updated structs blocks s op v w)
-updated_ok structs blocks op (tree.integer s) (tree.integer t) (values.Num n) (values.Num m) h i j =
+updated_ok structs blocks op (tree.integer s) (tree.integer t) (values.Num n) (values.Num m) c h i j =
     let types = operand_types op n.ty m.ty in
     stored_number (computed op types n m) (result_type op types.0) s (result_ok op (num types.0 n.value) (num types.1 m.value))
-updated_ok structs blocks op (tree.integer s) (tree.integer t) (values.Num n) (values.Pointer q) h i j = elim j [ ]
-updated_ok structs blocks op (tree.integer s) (tree.integer t) (values.Pointer p) w h i j = elim i [ ]
-updated_ok structs blocks op (tree.pointer to) (tree.integer t) (values.Pointer p) (values.Num m) h i j = moves_pointer structs blocks to op p m h.0
-updated_ok structs blocks op (tree.pointer to) (tree.integer t) (values.Pointer p) (values.Pointer q) h i j = elim j [ ]
-updated_ok structs blocks op (tree.pointer to) (tree.integer t) (values.Num n) w h i j = elim i [ ]
-updated_ok structs blocks op s t v w h i j = elim h [ ]
+updated_ok structs blocks op (tree.integer s) (tree.integer t) (values.Num n) (values.Pointer q) c h i j = elim j [ ]
+updated_ok structs blocks op (tree.integer s) (tree.integer t) (values.Pointer p) w c h i j = elim i [ ]
+updated_ok structs blocks op (tree.pointer to) (tree.integer t) (values.Pointer p) (values.Num m) c h i j = moves_pointer structs blocks to op p m h.0
+updated_ok structs blocks op (tree.pointer to) (tree.integer t) (values.Pointer p) (values.Pointer q) c h i j = elim j [ ]
+updated_ok structs blocks op (tree.pointer to) (tree.integer t) (values.Num n) w c h i j = elim i [ ]
+updated_ok structs blocks op (tree.atomic s) t v w c h i j = elim c [ ]
+updated_ok structs blocks op s t v w c h i j = elim h [ ]
 
 -- ---- what well formed expressions say of kinds
 
@@ -327,22 +349,40 @@ on_pointers_taken op (tree.pointer s) (tree.pointer t) ty h i e = ap access_of_t
 on_pointers_taken op (tree.pointer s) b ty h i e = elim i [ ]
 on_pointers_taken op a b ty h i e = elim h [ ]
 
-pub converts_taken : (s ty : tree.Ty) → Converts s ty → IsScalar ty → TakesOne (converts ty) (access_of_type s) (access_of_type ty)
+pub converts_taken : (s ty : tree.Ty) → Converts s ty → HasValues ty → TakesOne (converts ty) (access_of_type s) (access_of_type ty)
 converts_taken (tree.integer s) (tree.integer t) h i = refl
+converts_taken (tree.atomic s) (tree.integer t) h i = refl
 converts_taken (tree.pointer s) (tree.pointer t) h i = refl
 converts_taken s tree.void h i = elim i [ ]
 converts_taken s t h i = elim h [ ]
 
-pub converts_scalar : (s ty : tree.Ty) → Converts s ty → IsScalar ty → IsScalar s
-converts_scalar (tree.integer s) (tree.integer t) h i = tt
-converts_scalar (tree.pointer s) (tree.pointer t) h i = tt
-converts_scalar s tree.void h i = elim i [ ]
-converts_scalar s t h i = elim h [ ]
+pub converts_values : (s ty : tree.Ty) → Converts s ty → HasValues ty → HasValues s
+converts_values (tree.integer s) (tree.integer t) h i = tt
+converts_values (tree.atomic s) (tree.integer t) h i = tt
+converts_values (tree.pointer s) (tree.pointer t) h i = tt
+converts_values s tree.void h i = elim i [ ]
+converts_values s t h i = elim h [ ]
 
-pub updates_scalar : (structs : List tree.Layout) (op : Op) (s t : tree.Ty) → CanUpdate structs op s t → IsScalar s × IsScalar t
-updates_scalar structs op (tree.integer s) (tree.integer t) h = (tt, tt)
-updates_scalar structs op (tree.pointer s) (tree.integer t) h = (tt, tt)
+-- what is added or taken away is a number
+pub updates_scalar : (structs : List tree.Layout) (op : Op) (s t : tree.Ty) → CanUpdate structs op s t → IsScalar t
+updates_scalar structs op (tree.integer s) (tree.integer t) h = tt
+updates_scalar structs op (tree.atomic s) (tree.integer t) h = tt
+updates_scalar structs op (tree.pointer s) (tree.integer t) h = tt
 updates_scalar structs op s t h = elim h [ ]
+
+-- what isn't atomic is a number or a pointer, too
+pub updates_plain : (structs : List tree.Layout) (op : Op) (s t : tree.Ty) → CanUpdate structs op s t → is_atomic s ≡ false → IsScalar s
+updates_plain structs op (tree.integer s) (tree.integer t) h e = tt
+updates_plain structs op (tree.atomic s) (tree.integer t) h e = absurd cc
+updates_plain structs op (tree.pointer s) (tree.integer t) h e = tt
+updates_plain structs op s t h e = elim h [ ]
+
+-- what changes an atomic object is a number
+pub updates_number : (structs : List tree.Layout) (op : Op) (s t : tree.Ty) → CanUpdate structs op s t → is_atomic s ≡ true → IsInteger t
+updates_number structs op (tree.integer s) (tree.integer t) h e = absurd cc
+updates_number structs op (tree.atomic s) (tree.integer t) h e = tt
+updates_number structs op (tree.pointer s) (tree.integer t) h e = absurd cc
+updates_number structs op s t h e = elim h [ ]
 
 pub integer_scalar : (ty : tree.Ty) → IsInteger ty → IsScalar ty
 integer_scalar (tree.integer t) h = tt

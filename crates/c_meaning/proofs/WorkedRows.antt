@@ -6,6 +6,7 @@ use Rattle.ak_words.specs.Wrapped.{residue, wrapped_value}
 use Rattle.c_meaning.specs.Rows.{RowsStand, RulesStand, OrdersStand}
 use Rattle.c_meaning.specs.SwitchRows.{SwitchesStand}
 use Rattle.c_meaning.specs.AllocationRows.{AllocationsStand}
+use Rattle.c_meaning.specs.AtomicRows.{AtomicsStand}
 
 pub rows_stand : RowsStand
 unfolding digits residue wrapped_value exact_result rule_of
@@ -109,4 +110,23 @@ allocations_stand = record {
   too_many = refl;
   far_too_many = refl;
   far_too_many_none = refl;
+}
+
+pub atomics_stand : AtomicsStand
+unfolding digits residue wrapped_value exact_result rule_of
+atomics_stand = record {
+  compared_is = refl;
+  added_is = refl;
+  taken_is = refl;
+  least_taken_is = refl;
+  swapped_is = refl;
+  stored_is = refl;
+  assigned_is = refl;
+  dropped_is = refl;
+  plus_is = refl;
+  minus_is = refl;
+  unset_is = refl;
+  both_counted = refl;
+  both_counted_back = refl;
+  one_lost = refl;
 }

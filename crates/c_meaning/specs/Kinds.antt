@@ -18,9 +18,10 @@ use Rattle.c_meaning.specs.Control.{Wait, wanted, dropped, Caller, TurnStart, gi
 
 -- ---- values and locals
 
--- a value of this type: a number of exactly this integer type, or a pointer; no other type has values
+-- a value of this type: a number of exactly this integer type, also in an object of its atomic type, or a pointer; no other type has values
 abbrev pub HasType : tree.Ty → Value → Type 0
 HasType (tree.integer t) (values.Num n) = n.ty ≡ t
+HasType (tree.atomic t) (values.Num n) = n.ty ≡ t
 HasType (tree.pointer to) (values.Pointer p) = Unit {0}
 HasType ty v = ⊥
 
@@ -146,7 +147,7 @@ abbrev mutual
   Expects i how (update_left u right k) = (how ≡ accesses.Pointer) × IsTyped i.context right × CanUpdate i.context.structs u.op u.ty (tree.type_of right) × IsTypedTodo i k
   Expects i how (update_local u number k) = IsNth i.context.locals number (λ l. (l.in_memory ≡ false) × (l.ty ≡ u.ty)) × UpdatesBy i u how × IsTypedTodo i k
   Expects i how (update_right u at k) = HasKind accesses.Pointer at × UpdatesBy i u how × IsTypedTodo i k
-  Expects i how (update_read u at by k) = (how ≡ access_of_type u.ty) × HasKind accesses.Pointer at × ((kind : Access) × UpdatesBy i u kind × HasKind kind by) × IsTypedTodo i k
+  Expects i how (update_read u at by k) = IsScalar u.ty × (how ≡ access_of_type u.ty) × HasKind accesses.Pointer at × ((kind : Access) × UpdatesBy i u kind × HasKind kind by) × IsTypedTodo i k
   Expects i how (if_test place one other k) = IsWellSomewhere i one × IsWellSomewhere i other × IsTypedTodo i k
   Expects i how (loop_test place l k) = IsTypedLoop i l × IsTypedTodo i k
   Expects i how (switch_test labels body k) = IsNumberKind how × AreWellSomewhere i body × IsTypedTodo i k

@@ -10,4 +10,5 @@ pub mod Sound
 pub mod Rows
 pub mod SwitchRows
 pub mod AllocationRows
+pub mod AtomicRows
 pub mod KindRows

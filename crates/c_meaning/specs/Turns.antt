@@ -22,8 +22,8 @@ use Rattle.block_store.specs.Actions.{World, with_local, without_local, SharedAc
 use Rattle.block_store.specs.Runs.{Turn, went, ended, blocked, unfit, broke}
 use Rattle.c_tree.specs.Typed as tree
 use Rattle.c_tree.specs.TypedLayout.{size_in, align_in}
-use Rattle.c_meaning.specs.Values.{access_of_type, is_scalar, element_size, member_offset, int_of, truth_of, Unary, converts, negates, tests, selects, Binary, on_numbers, forward, backward, distance, on_pointers, of_one, of_two, updated}
-use Rattle.c_meaning.specs.Library.{action_of, value_of_call}
+use Rattle.c_meaning.specs.Values.{access_of_type, is_scalar, is_atomic, is_minus, element_size, member_offset, int_of, truth_of, Unary, converts, negates, tests, selects, Binary, on_numbers, forward, backward, distance, on_pointers, of_one, of_two, updated}
+use Rattle.c_meaning.specs.Library.{changed_by, action_of, value_of_call}
 use Rattle.c_meaning.specs.Switches.{chosen, starts_at}
 use Rattle.c_meaning.specs.Control.{Variable, unset, holds, lies, Loop, Update, Callee, function, library, Todo, leaves, then_row, then_end, then_loop, in_body, in_step, in_switch}
 use Rattle.c_meaning.specs.Control.{Use, first_of, second_of, only_of, place_read, first_test, second_test, choice, argument, to_local, left_place, to_place, struct_left, struct_right, update_left, update_local, update_right, update_read, if_test, loop_test, switch_test, to_caller, to_nowhere}
@@ -360,7 +360,7 @@ abbrev mutual
 abbrev pub nowhere_way : Way → WayOfUse
 nowhere_way w = record { k = to_nowhere w.k; go = λ v x. w.end x }
 
--- an object whose value is dropped: a number or a pointer is read all the same, and any other object is only found
+-- an object whose value is dropped: a number, also an atomic one, or a pointer is read all the same, and any other object is only found
 abbrev pub drops_object : TurnContext → (place : ℕ) → tree.Ty → tree.ExprNode → Way → Does
 drops_object h place ty node w x = if is_scalar ty then run_node h place ty node (nowhere_way w) x else run_place_node h place node (nowhere_way w) x
 
@@ -425,18 +425,28 @@ assigns h (tree.local number) left right w =
     if is_block (local_at h number) then assigns_object h left right w else run h right (local_way number w)
 assigns h node left right w = assigns_object h left right w
 
--- a op= b: the place of a, then b, then a is read, and the result is stored: two actions (C11 6.5.16.2)
+-- a op= b: the place of a, then b, then a is read, and the result is stored: two actions; but an a that is atomic is changed, in one
+-- (C11 6.5.16.2)
 abbrev pub update_read_way : TurnContext → Update → (at by : Value) → Way → WayOfUse
 update_read_way h u at by w = record {
   k = update_read u at by w.k;
   go = λ v x. on_ok u.operator (λ r. (place_way h u.place at w).go r x) (updated h.typed.structs x.world.blocks u.ty u.op v by);
 }
 
--- once b has its value: a is read, one action
+-- a is read, one action
+abbrev pub update_reads : TurnContext → Update → (at by : Value) → Way → Does
+update_reads h u at by w x = acts h u.place (actions.load (pointer_in at) (access_of_type u.ty)) (λ read next. stays h x.locals (after_call (wanted u.place (update_read u at by w.k)) read) next) x
+
+-- a, which is atomic, is changed, one action, and its old number is dropped (C11 6.5.16.2 p3)
+abbrev pub update_changes : TurnContext → Update → Way → Option SharedAction → Does
+update_changes h u w None x = unfit
+update_changes h u w (Some action) x = acts h u.place action (λ old next. stays h x.locals (begins w.k) next) x
+
+-- once b has its value: a is changed where it is atomic, and else read
 abbrev pub update_right_way : TurnContext → Update → (at : Value) → Way → WayOfUse
 update_right_way h u at w = record {
   k = update_right u at w.k;
-  go = λ v x. acts h u.place (actions.load (pointer_in at) (access_of_type u.ty)) (λ read next. stays h x.locals (after_call (wanted u.place (update_read u at v w.k)) read) next) x;
+  go = λ v x. if is_atomic u.ty then update_changes h u w (changed_by (is_minus u.op) (pointer_in at) v) x else update_reads h u at v w x;
 }
 
 -- once the place of a is found: b is evaluated

@@ -1,6 +1,6 @@
 -- What operators give of values (C11 6.3, 6.5). In a well typed program each gets values of the kinds that it takes; of others the
 -- definitions say C16.
-use Rattle.std.specs.Prelude.{ℕ, Bool, true, false, not, ℤ, pos, neg_ℤ, List, Option, Some, None, Result, Ok, Err, slice_get}
+use Rattle.std.specs.Prelude.{ℕ, Bool, true, false, not, ℤ, pos, neg_ℤ, ◌-ℤ◌, List, Option, Some, None, Result, Ok, Err, slice_get}
 use Rattle.std.specs.Ordering.{int_eq}
 use Rattle.ak_words.specs.declared.int_type.IntType.{IntType}
 use Rattle.ak_words.specs.declared.number.Num.{Num}
@@ -23,16 +23,23 @@ use Rattle.c_tree.specs.TypedLayout.{size_in}
 
 -- ---- types
 
--- how an object of this type is accessed: a number as such, and a pointer
+-- how an object of this type is accessed: a number as such, also an atomic one, and a pointer
 abbrev pub access_of_type : tree.Ty → Access
 access_of_type (tree.integer t) = accesses.Number t
+access_of_type (tree.atomic t) = accesses.Number t
 access_of_type t = accesses.Pointer
 
--- a number or a pointer: its objects have values
+-- a number, also an atomic one, or a pointer: its objects have values
 abbrev pub is_scalar : tree.Ty → Bool
 is_scalar (tree.integer t) = true
+is_scalar (tree.atomic t) = true
 is_scalar (tree.pointer t) = true
 is_scalar t = false
+
+-- the type of an atomic number
+abbrev pub is_atomic : tree.Ty → Bool
+is_atomic (tree.atomic t) = true
+is_atomic t = false
 
 -- the size of what a pointer of this type points to
 abbrev pub element_size : List tree.Layout → tree.Ty → ℕ
@@ -94,6 +101,10 @@ opposite (Err rule) = Err rule
 abbrev pub converted : tree.Ty → Value → Value
 converted (tree.integer t) (values.Num n) = values.Num (num t n.value)
 converted t v = v
+
+-- 0 minus a number, modulo its type's range: to add this is to take the number away, also where it is the least one (C11 7.17.7.5)
+abbrev pub opposite_of : Num → Num
+opposite_of n = num n.ty (pos 0 -ℤ n.value)
 
 -- ---- operations
 
@@ -158,3 +169,8 @@ updated structs blocks ty op (values.Num a) (values.Num b) = converted_result ty
 updated structs blocks ty ops.Add (values.Pointer p) (values.Num n) = of_two blocks (forward (element_size structs ty)) (values.Pointer p) (values.Num n)
 updated structs blocks ty ops.Sub (values.Pointer p) (values.Num n) = of_two blocks (backward (element_size structs ty)) (values.Pointer p) (values.Num n)
 updated structs blocks ty op a b = Err C16
+
+-- the operator -
+abbrev pub is_minus : Op → Bool
+is_minus ops.Sub = true
+is_minus op = false

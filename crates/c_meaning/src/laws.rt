@@ -8,17 +8,20 @@ ghost use Rattle.c_meaning.specs.Alike.{AsDeep, reached_by, reached_in};
 ghost use Rattle.c_meaning.specs.Rows.{RowsStand, RulesStand, OrdersStand};
 ghost use Rattle.c_meaning.specs.SwitchRows.{SwitchesStand};
 ghost use Rattle.c_meaning.specs.AllocationRows.{AllocationsStand};
+ghost use Rattle.c_meaning.specs.AtomicRows.{AtomicsStand};
 ghost use Rattle.c_meaning.specs.KindRows.{ValuesAreTold, OperatorsAreTold, ThreadsAreTold};
 ghost use Rattle.c_meaning.specs.Sound.{ThreadsBeginTyped, TurnsKeepTypes, TurnsGoOn, SomeAnswerFits, RunsBeginTyped, PicksKeepTypes, RunsKeepTypes, RunsGoOn};
 
 /// Small programs mean what C11 says of them, worked out by hand: whole runs, each rule broken once, what comes first,
-/// which statements of a switch and rounds of a do are executed, and what a calloc and a realloc give.
+/// which statements of a switch and rounds of a do are executed, what a calloc and a realloc give, and what is done in one turn
+/// with an atomic number.
 pub fn small_programs_mean_what_they_should()
     ensures rows { RowsStand }
     ensures rules { RulesStand }
     ensures orders { OrdersStand }
     ensures switches { SwitchesStand }
     ensures allocations { AllocationsStand }
+    ensures atomics { AtomicsStand }
 {}
 
 /// What an order shows of a program, turn by turn, tells where its run comes to: so programs that show the same come to the

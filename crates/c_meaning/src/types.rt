@@ -3,7 +3,7 @@
 ghost use Rattle.std.specs.Prelude.{◌≡◌, ◌*◌, IfOk, map, Some};
 ghost use Rattle.c_tree.specs.TypedLayout.{size_in, align_in};
 ghost use Rattle.c_tree.specs.TypedViews.{type_view, layout_view};
-ghost use Rattle.c_meaning.specs.Values.{access_of_type, is_scalar, element_size, member_offset, offset_in, operand_types};
+ghost use Rattle.c_meaning.specs.Values.{access_of_type, is_scalar, is_atomic, element_size, member_offset, offset_in, operand_types, is_minus};
 ghost use Rattle.c_meaning.specs.Turns.{is_struct};
 
 use ak_words::{IntType, NoMemory, Op, common, promote};
@@ -20,7 +20,7 @@ pub fn size_in(t: &CType, structs: &[Layout]) -> Result<u32, NoMemory>
 {
     match t {
         CType::Void => Ok(0),
-        CType::Int(t) => Ok(u32::from(t.bits / 8)),
+        CType::Int(t) | CType::Atomic(t) => Ok(u32::from(t.bits / 8)),
         CType::Mutex | CType::Pointer(_) => Ok(8),
         CType::Array(element, n) => product(size_in(element, structs)?, *n),
         CType::Struct(n) => match structs.get(*n as usize) {
@@ -45,7 +45,7 @@ pub fn align_in(t: &CType, structs: &[Layout]) -> u32
 {
     match t {
         CType::Void => 1,
-        CType::Int(t) => u32::from(t.bits / 8),
+        CType::Int(t) | CType::Atomic(t) => u32::from(t.bits / 8),
         CType::Mutex | CType::Pointer(_) => 8,
         CType::Array(element, _) => align_in(element, structs),
         CType::Struct(n) => match structs.get(*n as usize) {
@@ -96,16 +96,23 @@ pub fn access_of_type(t: &CType) -> Access
     ensures { result ≡ access_of_type (type_view t.now) }
 {
     match t {
-        CType::Int(t) => Access::Number(*t),
+        CType::Int(t) | CType::Atomic(t) => Access::Number(*t),
         _ => Access::Pointer,
     }
 }
 
-/// Whether it is a number or a pointer (C11 6.2.5 p21).
+/// Whether it is a number, also an atomic one, or a pointer (C11 6.2.5 p20, p21).
 pub fn is_scalar(t: &CType) -> bool
     ensures { result ≡ is_scalar (type_view t.now) }
 {
-    matches!(t, CType::Int(_) | CType::Pointer(_))
+    matches!(t, CType::Int(_) | CType::Atomic(_) | CType::Pointer(_))
+}
+
+/// Whether it is an atomic number.
+pub fn is_atomic(t: &CType) -> bool
+    ensures { result ≡ is_atomic (type_view t.now) }
+{
+    matches!(t, CType::Atomic(_))
 }
 
 /// Whether it is a struct.
@@ -123,4 +130,11 @@ pub fn operand_types(op: Op, a: IntType, b: IntType) -> (IntType, IntType)
         Op::Shl | Op::Shr => (promote(a), promote(b)),
         _ => (common(a, b), common(a, b)),
     }
+}
+
+/// Whether it is the operator `-`.
+pub fn is_minus(op: Op) -> bool
+    ensures { result ≡ is_minus op }
+{
+    matches!(op, Op::Sub)
 }

@@ -4,7 +4,7 @@ ghost use Rattle.std.specs.Prelude.{◌≡◌, ◌++◌, [], IfOk, OnOk, map, So
 ghost use Rattle.c_tree.specs.TypedViews.{expr_view, optional_expr_view, stmt_view};
 ghost use Rattle.struct_ir.specs.Nodes.{Nodes, no_nodes, more_nodes, loop};
 ghost use Rattle.struct_ir.specs.Views.{place_view, nodes_view, followed};
-ghost use Rattle.lower_forms.specs.Forms.{branches, expr_nodes, declared_home, ends, objects_by, objects_in, store_nodes, copy_nodes, object_assign, assign_nodes, update_register, update_at, update_object, update_nodes, test_nodes, declare_nodes, return_nodes, stmt_nodes, row_nodes, looped, switched, sets_int, choose_nodes, switch_nodes, stmt_place, guarded, break_nodes};
+ghost use Rattle.lower_forms.specs.Forms.{branches, expr_nodes, declared_home, ends, objects_by, objects_in, store_nodes, copy_nodes, object_assign, assign_nodes, update_register, update_at, update_by, update_object, update_nodes, test_nodes, declare_nodes, return_nodes, stmt_nodes, row_nodes, looped, switched, sets_int, choose_nodes, switch_nodes, stmt_place, guarded, break_nodes};
 ghost use Rattle.c_tree.specs.TypedViews.{label_view};
 ghost use Rattle.c_meaning.specs.Switches.{default_from};
 ghost use Rattle.lower_expressions.specs.FrameViews.{frame_view};
@@ -12,12 +12,15 @@ ghost use Rattle.c_tree.specs.Typed.{stmts_of};
 
 use crate::labels::{chooses, default_number, marks, sets_number};
 use ak_words::{NoMemory, Op};
-use c_meaning::types::is_struct;
+use c_meaning::types::{is_atomic, is_minus, is_struct};
 use c_tree::typed::{Expr, Label, Stmt, StmtNode};
 use lower_expressions::expressions::{dropped, expr, place};
-use lower_expressions::forms::{computes, initialises, loads_at, stores, struct_nodes};
+use lower_expressions::forms::{
+    change_nodes, computes, initialises, loads_at, stores, struct_nodes,
+};
 use lower_expressions::frame::Frame;
 use lower_expressions::nodes::{after, begins, branches, ends, put, rounds, sets, sets_int};
+use lower_expressions::types::number_type;
 use std::alloc::Global;
 use struct_ir::{Calc, Node, NodeKind, Place};
 
@@ -139,6 +142,29 @@ fn update_at(
     stores(alloc, out, left.place, &left.ty, to, u)
 }
 
+// A compound assignment to what is at a place, where `u` holds the right operand: an atomic number is changed, in one
+// action.
+fn update_by(
+    alloc: Global,
+    f: &Frame,
+    at: u32,
+    u: u32,
+    op: Op,
+    to: Place,
+    left: &Expr,
+    right: &Expr,
+    out: &mut Vec<Node>,
+) -> Result<(), NoMemory>
+    ensures { OnOk result ((rest : Nodes) → followed out.new.items rest ≡ followed out.old.items (update_by (frame_view f.now) at u op (place_view to) (expr_view left.now) (expr_view right.now) rest)) }
+{
+    if is_atomic(&left.ty) {
+        let ty = number_type(&left.ty);
+        change_nodes(alloc, out, left.place, is_minus(op), ty, to, u, None)
+    } else {
+        update_at(alloc, f, at, u, op, to, left, right, out)
+    }
+}
+
 // A compound assignment to an object.
 fn update_object(
     alloc: Global,
@@ -155,7 +181,7 @@ fn update_object(
     let r = place(alloc, left, f, t, out)?;
     let u = r.behind(t)?;
     expr(alloc, right, f, u, out)?;
-    update_at(alloc, f, at, u, op, r.place(t)?, left, right, out)
+    update_by(alloc, f, at, u, op, r.place(t)?, left, right, out)
 }
 
 // A compound assignment, by the register that it sets, if it sets one.

@@ -1,10 +1,11 @@
 //! The parts of which forms are made.
 
-ghost use Rattle.std.specs.Prelude.{◌≡◌, OnOk, IfOk, map, suc, [], ◌∷◌, None, Some, false};
-ghost use Rattle.c_tree.specs.Typed.{print, mutex_init, no_exprs, exprs_of};
+ghost use Rattle.std.specs.Prelude.{◌≡◌, OnOk, IfOk, map, suc, [], ◌∷◌, None, Some, false, pos};
+ghost use Rattle.block_store.specs.declared.values.Change.TheVariants.{Add};
+ghost use Rattle.c_tree.specs.Typed.{print, mutex_init, atomic_swap, atomic_compare, atomic_store, no_exprs, exprs_of};
 ghost use Rattle.c_tree.specs.TypedViews.{type_view, layout_view, expr_view, lib_view, piece_view};
 ghost use Rattle.c_meaning.specs.Values.{access_of_type, operand_types};
-ghost use Rattle.struct_ir.specs.Nodes.{Nodes, copy, copy_bytes, load, store};
+ghost use Rattle.struct_ir.specs.Nodes.{Nodes, copy, copy_bytes, load, store, change};
 ghost use Rattle.struct_ir.specs.Views.{place_view, calc_view, action_view, followed};
 ghost use Rattle.lower_forms.specs.Forms as forms;
 ghost use Rattle.lower_forms.specs.Forms.{sized_copy};
@@ -12,9 +13,9 @@ ghost use Rattle.lower_expressions.specs.FrameViews.{reach_view};
 
 use crate::frame::{Reach, at_temp};
 use crate::nodes::{acts, after, calls, sets, sets_int, sets_long};
-use crate::types::{is_number, number_type};
-use ak_words::{IntType, NoMemory, Op};
-use block_store::Access;
+use crate::types::{changed_number, is_number, number_type, unsigned_of};
+use ak_words::{IntType, NoMemory, Num, Op};
+use block_store::{Access, Change};
 use c_meaning::types::{access_of_type, align_in, element_size, operand_types, size_in};
 use c_tree::copies::copy_pieces;
 use c_tree::typed::{CType, Expr, Layout, Lib, Piece};
@@ -226,6 +227,11 @@ pub fn lib_nodes(
         Lib::MutexLock => mutex_call(alloc, out, place, Action::Lock, t),
         Lib::MutexUnlock => mutex_call(alloc, out, place, Action::Unlock, t),
         Lib::MutexDestroy => mutex_nodes(alloc, out, place, Action::Destroy, t),
+        Lib::AtomicAdd => summing(alloc, out, place, false, args, t),
+        Lib::AtomicSub => summing(alloc, out, place, true, args, t),
+        Lib::AtomicSwap => exchanging(alloc, out, place, args, t),
+        Lib::AtomicCompare => comparing(alloc, out, place, args, t),
+        Lib::AtomicStore => storing(alloc, out, place, args, t),
     }
 }
 
@@ -338,6 +344,129 @@ fn mutex_init(alloc: Global, out: &mut Vec<Node>, place: u32, t: u32) -> Result<
     let store = Action::Store(Access::Number(IntType::unsigned_long()));
     place_nodes(alloc, out, place, store, t, None, u)?;
     sets_int(out, place, t, 0)
+}
+
+// 0, of the unsigned type of the same width.
+#[tactic(auto, using(crate::proofs::Zeros::zero_kept))]
+fn unsigned_zero(t: IntType) -> Num
+    ensures ty { result.ty ≡ forms.unsigned_of t }
+    ensures value { result.value ≡ pos 0 }
+{
+    Num::wrapping(unsigned_of(t), 0)
+}
+
+// 0 minus the number in `u`, which is of the type `ty`: the register behind `u` takes the 0.
+fn opposite_nodes(out: &mut Vec<Node>, place: u32, ty: IntType, u: u32) -> Result<(), NoMemory>
+    ensures { OnOk result ((rest : Nodes) → followed out.new.items rest ≡ followed out.old.items (forms.opposite_nodes place ty u rest)) }
+{
+    let unsigned = unsigned_of(ty);
+    let zero = after(u)?;
+    sets(out, place, u, Calc::Convert(unsigned, u))?;
+    sets(out, place, zero, Calc::Num(unsigned_zero(ty)))?;
+    sets(out, place, u, Calc::Apply(Op::Sub, unsigned, zero, u))?;
+    sets(out, place, u, Calc::Convert(ty, u))
+}
+
+/// The number in `u` is added to the one at a place, or taken away from it, in one action.
+pub fn change_nodes(
+    alloc: Global,
+    out: &mut Vec<Node>,
+    place: u32,
+    away: bool,
+    ty: IntType,
+    at: Place,
+    u: u32,
+    to: Option<u32>,
+) -> Result<(), NoMemory>
+    ensures { OnOk result ((rest : Nodes) → followed out.new.items rest ≡ followed out.old.items (forms.change_nodes place away ty (place_view at) u to rest)) }
+{
+    if away {
+        opposite_nodes(out, place, ty, u)?;
+        adding(alloc, out, place, ty, at, u, to)
+    } else {
+        adding(alloc, out, place, ty, at, u, to)
+    }
+}
+
+// The number in `u` is added to the one at a place.
+fn adding(
+    alloc: Global,
+    out: &mut Vec<Node>,
+    place: u32,
+    ty: IntType,
+    at: Place,
+    u: u32,
+    to: Option<u32>,
+) -> Result<(), NoMemory>
+    ensures { OnOk result ((rest : Nodes) → followed out.new.items rest ≡ followed out.old.items (forms.acts place (change Add ty) (place_view at ∷ []) to (u ∷ []) rest)) }
+{
+    let places = vec![in alloc; at]?;
+    let temps = vec![in alloc; u]?;
+    let action = Action::Change(Change::Add, ty);
+    acts(alloc, out, place, action, places, to, temps)
+}
+
+// A number is added to an atomic one, or taken away; the old one comes to `t`.
+fn summing(
+    alloc: Global,
+    out: &mut Vec<Node>,
+    place: u32,
+    away: bool,
+    args: &[Expr],
+    t: u32,
+) -> Result<(), NoMemory>
+    ensures { OnOk result ((rest : Nodes) → followed out.new.items rest ≡ followed out.old.items (forms.change_nodes place away (forms.changed_number (exprs_of (map expr_view args.now))) (forms.at_temp t) (suc t) (Some t) rest)) }
+{
+    let ty = changed_number(args);
+    let u = after(t)?;
+    change_nodes(alloc, out, place, away, ty, at_temp(t), u, Some(t))
+}
+
+// An atomic number is exchanged; the old one comes to `t`.
+fn exchanging(
+    alloc: Global,
+    out: &mut Vec<Node>,
+    place: u32,
+    args: &[Expr],
+    t: u32,
+) -> Result<(), NoMemory>
+    ensures { OnOk result ((rest : Nodes) → followed out.new.items rest ≡ followed out.old.items (forms.lib_nodes place atomic_swap (exprs_of (map expr_view args.now)) t rest)) }
+{
+    let action = Action::Change(Change::Swap, changed_number(args));
+    let u = after(t)?;
+    place_nodes(alloc, out, place, action, t, Some(t), u)
+}
+
+// An atomic number is compared with the one at `t` + 1, and exchanged where they are equal.
+fn comparing(
+    alloc: Global,
+    out: &mut Vec<Node>,
+    place: u32,
+    args: &[Expr],
+    t: u32,
+) -> Result<(), NoMemory>
+    ensures { OnOk result ((rest : Nodes) → followed out.new.items rest ≡ followed out.old.items (forms.lib_nodes place atomic_compare (exprs_of (map expr_view args.now)) t rest)) }
+{
+    let action = Action::Compare(changed_number(args));
+    let u = after(t)?;
+    let places = vec![in alloc; at_temp(t), at_temp(u)]?;
+    let temps = vec![in alloc; after(u)?]?;
+    acts(alloc, out, place, action, places, Some(t), temps)
+}
+
+// A number is stored in an atomic object.
+fn storing(
+    alloc: Global,
+    out: &mut Vec<Node>,
+    place: u32,
+    args: &[Expr],
+    t: u32,
+) -> Result<(), NoMemory>
+    ensures { OnOk result ((rest : Nodes) → followed out.new.items rest ≡ followed out.old.items (forms.lib_nodes place atomic_store (exprs_of (map expr_view args.now)) t rest)) }
+{
+    let action = Action::Store(Access::Number(changed_number(args)));
+    let u = after(t)?;
+    place_nodes(alloc, out, place, action, t, None, u)
 }
 
 // memcpy of the bytes at `t` + 1 to `t`, so many as `t` + 2 says.

@@ -41,12 +41,13 @@ module _ (f : Frame) where
   cost_converts : (place : ℕ) (ty : tree.Ty) (t : ℕ) (rest : Nodes) → AtMost (converts place ty t rest) (1) rest
   cost_converts place tree.void t rest = cost_weak _ _ _ _ (cost_same _) (omega arith)
   cost_converts place (tree.integer s) t rest = cost_weak _ _ _ _ (cost_step _ _ _ _ _ (cost_one _ _ _) (cost_same _)) (omega arith)
+  cost_converts place (tree.atomic s) t rest = cost_weak _ _ _ _ (cost_same _) (omega arith)
   cost_converts place tree.mutex t rest = cost_weak _ _ _ _ (cost_same _) (omega arith)
   cost_converts place (tree.pointer s) t rest = cost_weak _ _ _ _ (cost_same _) (omega arith)
   cost_converts place (tree.array s m) t rest = cost_weak _ _ _ _ (cost_same _) (omega arith)
   cost_converts place (tree.structure m) t rest = cost_weak _ _ _ _ (cost_same _) (omega arith)
 
-  cost_lib : (place : ℕ) (which : tree.Lib) (es : tree.Exprs) (t : ℕ) (rest : Nodes) → AtMost (lib_nodes place which es t rest) (3) rest
+  cost_lib : (place : ℕ) (which : tree.Lib) (es : tree.Exprs) (t : ℕ) (rest : Nodes) → AtMost (lib_nodes place which es t rest) (5) rest
   cost_lib place (tree.print pieces) es t rest = cost_weak _ _ _ _ (cost_step _ _ _ _ _ (cost_one _ _ _) (cost_same _)) (omega arith)
   cost_lib place tree.malloc es t rest = cost_weak _ _ _ _ (cost_step _ _ _ _ _ (cost_one _ _ _) (cost_same _)) (omega arith)
   cost_lib place tree.calloc es t rest = cost_weak _ _ _ _ (cost_step _ _ _ _ _ (cost_one _ _ _) (cost_same _)) (omega arith)
@@ -59,6 +60,11 @@ module _ (f : Frame) where
   cost_lib place tree.mutex_lock es t rest = cost_weak _ _ _ _ (cost_step _ _ _ _ _ (cost_one _ _ _) (cost_step _ _ _ _ _ (cost_one _ _ _) (cost_same _))) (omega arith)
   cost_lib place tree.mutex_unlock es t rest = cost_weak _ _ _ _ (cost_step _ _ _ _ _ (cost_one _ _ _) (cost_step _ _ _ _ _ (cost_one _ _ _) (cost_same _))) (omega arith)
   cost_lib place tree.mutex_destroy es t rest = cost_weak _ _ _ _ (cost_step _ _ _ _ _ (cost_one _ _ _) (cost_same _)) (omega arith)
+  cost_lib place tree.atomic_add es t rest = cost_weak _ _ _ _ (cost_step _ _ _ _ _ (cost_one _ _ _) (cost_same _)) (omega arith)
+  cost_lib place tree.atomic_sub es t rest = cost_weak _ _ _ _ (cost_step _ _ _ _ _ (cost_one _ _ _) (cost_step _ _ _ _ _ (cost_one _ _ _) (cost_step _ _ _ _ _ (cost_one _ _ _) (cost_step _ _ _ _ _ (cost_one _ _ _) (cost_step _ _ _ _ _ (cost_one _ _ _) (cost_same _)))))) (omega arith)
+  cost_lib place tree.atomic_swap es t rest = cost_weak _ _ _ _ (cost_step _ _ _ _ _ (cost_one _ _ _) (cost_same _)) (omega arith)
+  cost_lib place tree.atomic_compare es t rest = cost_weak _ _ _ _ (cost_step _ _ _ _ _ (cost_one _ _ _) (cost_same _)) (omega arith)
+  cost_lib place tree.atomic_store es t rest = cost_weak _ _ _ _ (cost_step _ _ _ _ _ (cost_one _ _ _) (cost_same _)) (omega arith)
 
   mutual
     pub cost_expr : (e : tree.Expr) (t : ℕ) (rest : Nodes) → AtMost (expr_nodes f e t rest) (5 * expr_size e) rest

@@ -5,10 +5,11 @@ use Rattle.std.specs.Prelude.{nat_le, slice_get}
 use Rattle.ak_words.specs.declared.int_type.IntType.{IntType}
 use Rattle.ak_words.specs.declared.operation.Op.{Op}
 use Rattle.c_tree.specs.Typed as tree
+use Rattle.c_meaning.specs.Values.{is_atomic, is_minus}
 use Rattle.c_meaning.specs.Switches.{stands_at}
 use Rattle.c_meaning.specs.Turns.{is_struct}
-use Rattle.struct_ir.specs.Nodes.{Nodes, no_nodes, more_nodes, loop, break_, next_, ret}
-use Rattle.lower_forms.specs.Forms.{Frame, home, home_or_none, looped, switched, first_temp, begins, ends, with_home, declared_home, home_in, objects_by, objects_in, initialises, store_nodes, copy_nodes, own_register, assign_nodes, computes, update_nodes, equal_nodes, choose_nodes, begin_nodes, begin_if, label_nodes, stmt_place, guarded, break_nodes, test_nodes, declare_nodes, return_nodes, stmt_nodes, form_nodes, row_nodes, switch_nodes}
+use Rattle.struct_ir.specs.Nodes.{Place, Nodes, no_nodes, more_nodes, loop, break_, next_, ret}
+use Rattle.lower_forms.specs.Forms.{Frame, home, home_or_none, looped, switched, first_temp, begins, ends, with_home, declared_home, home_in, objects_by, objects_in, initialises, store_nodes, copy_nodes, own_register, assign_nodes, computes, change_nodes, update_by, update_nodes, equal_nodes, choose_nodes, begin_nodes, begin_if, label_nodes, stmt_place, guarded, break_nodes, test_nodes, declare_nodes, return_nodes, stmt_nodes, form_nodes, row_nodes, switch_nodes}
 use Rattle.lower_forms.specs.Sizes.{nodes_in, expr_size, size_if, stmt_size, stmt_parts, row_size, one_if, begun, begun_by, begun_in}
 use Rattle.lower_forms.proofs.Growth.{times_suc, times_plus, grows_five, grows_eight}
 use Rattle.lower_forms.proofs.CostExprs.{AtMost, cost_step, cost_weak, cost_same, cost_one, cost_branch, cost_either, cost_expr, cost_place, cost_dropped}
@@ -41,6 +42,7 @@ cost_computes : (structs : List tree.Layout) (place : ℕ) (op : Op) (u v : tree
 cost_computes structs place op tree.void v m n to rest = cost_weak _ _ _ _ (cost_one _ _ _) (omega arith)
 cost_computes structs place op (tree.integer u) v m n to rest =
     cost_weak _ _ _ _ (cost_step _ _ _ _ _ (cost_one _ _ _) (cost_step _ _ _ _ _ (cost_one _ _ _) (cost_step _ _ _ _ _ (cost_one _ _ _) (cost_one _ _ _)))) (omega arith)
+cost_computes structs place op (tree.atomic u) v m n to rest = cost_weak _ _ _ _ (cost_one _ _ _) (omega arith)
 cost_computes structs place op tree.mutex v m n to rest = cost_weak _ _ _ _ (cost_one _ _ _) (omega arith)
 cost_computes structs place op (tree.pointer u) v m n to rest = cost_weak _ _ _ _ (cost_one _ _ _) (omega arith)
 cost_computes structs place op (tree.array u l) v m n to rest = cost_weak _ _ _ _ (cost_one _ _ _) (omega arith)
@@ -59,10 +61,19 @@ module _ (f : Frame) where
   cost_assign place None left right t rest = cost_either (is_struct (tree.type_of left)) _ _ _ _ (cost_copy left right t rest) (cost_store left right t rest)
   cost_assign place (Some n) left right t rest = cost_weak _ _ _ _ (cost_step _ _ _ _ _ (cost_expr f right t _) (cost_one _ _ _)) (omega arith)
 
+  cost_change : (place : ℕ) (away : Bool) (ty : IntType) (p : Place) (u : ℕ) (to : Option ℕ) (rest : Nodes) → AtMost (change_nodes place away ty p u to rest) 5 rest
+  cost_change place false ty p u to rest = cost_weak _ _ _ _ (cost_one _ _ _) (omega arith)
+  cost_change place true ty p u to rest =
+      cost_weak _ _ _ _ (cost_step _ _ _ _ _ (cost_one _ _ _) (cost_step _ _ _ _ _ (cost_one _ _ _) (cost_step _ _ _ _ _ (cost_one _ _ _) (cost_step _ _ _ _ _ (cost_one _ _ _) (cost_one _ _ _))))) (omega arith)
+
+  cost_by : (place u : ℕ) (op : Op) (p : Place) (left right : tree.Expr) (rest : Nodes) → AtMost (update_by f place u op p left right rest) 6 rest
+  cost_by place u op p left right rest =
+      cost_either (is_atomic (tree.type_of left)) _ _ _ _ (cost_weak _ _ _ _ (cost_change (tree.place_of left) (is_minus op) _ p u None rest) (omega arith))
+      (cost_weak _ _ _ _ (cost_step _ _ _ _ _ (cost_one _ _ _) (cost_step _ _ _ _ _ (cost_computes f.structs place op _ _ _ _ _ _) (cost_one _ _ _))) (omega arith))
+
   cost_update : (place : ℕ) (op : Op) (o : Option ℕ) (left right : tree.Expr) (t : ℕ) (rest : Nodes) → AtMost (update_nodes f place op o left right t rest) (5 * expr_size left + 5 * expr_size right + 6) rest
   cost_update place op None left right t rest =
-      cost_weak _ _ _ _ (cost_step _ _ _ _ _ (cost_place f left t _) (cost_step _ _ _ _ _ (cost_expr f right _ _) (cost_step _ _ _ _ _ (cost_one _ _ _)
-      (cost_step _ _ _ _ _ (cost_computes f.structs place op _ _ _ _ _ _) (cost_one _ _ _))))) (omega arith)
+      cost_weak _ _ _ _ (cost_step _ _ _ _ _ (cost_place f left t _) (cost_step _ _ _ _ _ (cost_expr f right _ _) (cost_by place _ op _ left right rest))) (omega arith)
   cost_update place op (Some n) left right t rest =
       cost_weak _ _ _ _ (cost_step _ _ _ _ _ (cost_expr f right t _) (cost_step _ _ _ _ _ (cost_one _ _ _) (cost_computes f.structs place op _ _ _ _ _ rest))) (omega arith)
 

@@ -42,6 +42,7 @@ module _ (f : Frame) where
   deep_converts : (place : ℕ) (ty : tree.Ty) (t : ℕ) (rest : Nodes) → NoDeeper (converts place ty t rest) (1) rest
   deep_converts place tree.void t rest = deep_weak _ _ _ _ (deep_same _) (omega arith)
   deep_converts place (tree.integer s) t rest = deep_weak _ _ _ _ (deep_step _ _ _ _ _ (deep_one _ _ _) (deep_same _)) (omega arith)
+  deep_converts place (tree.atomic s) t rest = deep_weak _ _ _ _ (deep_same _) (omega arith)
   deep_converts place tree.mutex t rest = deep_weak _ _ _ _ (deep_same _) (omega arith)
   deep_converts place (tree.pointer s) t rest = deep_weak _ _ _ _ (deep_same _) (omega arith)
   deep_converts place (tree.array s m) t rest = deep_weak _ _ _ _ (deep_same _) (omega arith)
@@ -60,6 +61,11 @@ module _ (f : Frame) where
   deep_lib place tree.mutex_lock es t rest = deep_weak _ _ _ _ (deep_step _ _ _ _ _ (deep_one _ _ _) (deep_step _ _ _ _ _ (deep_one _ _ _) (deep_same _))) (omega arith)
   deep_lib place tree.mutex_unlock es t rest = deep_weak _ _ _ _ (deep_step _ _ _ _ _ (deep_one _ _ _) (deep_step _ _ _ _ _ (deep_one _ _ _) (deep_same _))) (omega arith)
   deep_lib place tree.mutex_destroy es t rest = deep_weak _ _ _ _ (deep_step _ _ _ _ _ (deep_one _ _ _) (deep_same _)) (omega arith)
+  deep_lib place tree.atomic_add es t rest = deep_weak _ _ _ _ (deep_step _ _ _ _ _ (deep_one _ _ _) (deep_same _)) (omega arith)
+  deep_lib place tree.atomic_sub es t rest = deep_weak _ _ _ _ (deep_step _ _ _ _ _ (deep_one _ _ _) (deep_step _ _ _ _ _ (deep_one _ _ _) (deep_step _ _ _ _ _ (deep_one _ _ _) (deep_step _ _ _ _ _ (deep_one _ _ _) (deep_step _ _ _ _ _ (deep_one _ _ _) (deep_same _)))))) (omega arith)
+  deep_lib place tree.atomic_swap es t rest = deep_weak _ _ _ _ (deep_step _ _ _ _ _ (deep_one _ _ _) (deep_same _)) (omega arith)
+  deep_lib place tree.atomic_compare es t rest = deep_weak _ _ _ _ (deep_step _ _ _ _ _ (deep_one _ _ _) (deep_same _)) (omega arith)
+  deep_lib place tree.atomic_store es t rest = deep_weak _ _ _ _ (deep_step _ _ _ _ _ (deep_one _ _ _) (deep_same _)) (omega arith)
 
   mutual
     pub deep_expr : (e : tree.Expr) (t : ℕ) (rest : Nodes) → NoDeeper (expr_nodes f e t rest) (3 * expr_depth e) rest

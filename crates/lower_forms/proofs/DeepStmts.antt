@@ -4,10 +4,11 @@ use Rattle.std.specs.Prelude.{max}
 use Rattle.ak_words.specs.declared.int_type.IntType.{IntType}
 use Rattle.ak_words.specs.declared.operation.Op.{Op}
 use Rattle.c_tree.specs.Typed as tree
+use Rattle.c_meaning.specs.Values.{is_atomic, is_minus}
 use Rattle.c_meaning.specs.Switches.{stands_at}
 use Rattle.c_meaning.specs.Turns.{is_struct}
-use Rattle.struct_ir.specs.Nodes.{Nodes, no_nodes, more_nodes, loop, break_, next_, ret}
-use Rattle.lower_forms.specs.Forms.{Frame, home, looped, switched, first_temp, begins, ends, objects_by, objects_in, initialises, store_nodes, copy_nodes, own_register, assign_nodes, computes, update_nodes, equal_nodes, choose_nodes, begin_if, label_nodes, stmt_place, guarded, break_nodes, test_nodes, declare_nodes, return_nodes, stmt_nodes, form_nodes, row_nodes, switch_nodes}
+use Rattle.struct_ir.specs.Nodes.{Place, Nodes, no_nodes, more_nodes, loop, break_, next_, ret}
+use Rattle.lower_forms.specs.Forms.{Frame, home, looped, switched, first_temp, begins, ends, objects_by, objects_in, initialises, store_nodes, copy_nodes, own_register, assign_nodes, computes, change_nodes, update_by, update_nodes, equal_nodes, choose_nodes, begin_if, label_nodes, stmt_place, guarded, break_nodes, test_nodes, declare_nodes, return_nodes, stmt_nodes, form_nodes, row_nodes, switch_nodes}
 use Rattle.lower_forms.specs.Sizes.{expr_depth, depth_if, stmt_depth, stmt_inside, row_depth}
 use Rattle.lower_forms.proofs.DeepExprs.{NoDeeper, deep_step, deep_weak, deep_same, deep_one, deep_branch, deep_either, deep_expr, deep_place, deep_dropped}
 
@@ -39,6 +40,7 @@ deep_computes : (structs : List tree.Layout) (place : ℕ) (op : Op) (u v : tree
 deep_computes structs place op tree.void v m n to rest = deep_one _ _ _
 deep_computes structs place op (tree.integer u) v m n to rest =
     deep_weak _ _ _ _ (deep_step _ _ _ _ _ (deep_one _ _ _) (deep_step _ _ _ _ _ (deep_one _ _ _) (deep_step _ _ _ _ _ (deep_one _ _ _) (deep_one _ _ _)))) (omega arith)
+deep_computes structs place op (tree.atomic u) v m n to rest = deep_one _ _ _
 deep_computes structs place op tree.mutex v m n to rest = deep_one _ _ _
 deep_computes structs place op (tree.pointer u) v m n to rest = deep_one _ _ _
 deep_computes structs place op (tree.array u l) v m n to rest = deep_one _ _ _
@@ -56,10 +58,19 @@ module _ (f : Frame) where
   deep_assign place None left right t rest = deep_either (is_struct (tree.type_of left)) _ _ _ _ (deep_copy left right t rest) (deep_store left right t rest)
   deep_assign place (Some n) left right t rest = deep_weak _ _ _ _ (deep_step _ _ _ _ _ (deep_expr f right t _) (deep_one _ _ _)) (omega arith)
 
+  deep_change : (place : ℕ) (away : Bool) (ty : IntType) (p : Place) (u : ℕ) (to : Option ℕ) (rest : Nodes) → NoDeeper (change_nodes place away ty p u to rest) 1 rest
+  deep_change place false ty p u to rest = deep_one _ _ _
+  deep_change place true ty p u to rest =
+      deep_weak _ _ _ _ (deep_step _ _ _ _ _ (deep_one _ _ _) (deep_step _ _ _ _ _ (deep_one _ _ _) (deep_step _ _ _ _ _ (deep_one _ _ _) (deep_step _ _ _ _ _ (deep_one _ _ _) (deep_one _ _ _))))) (omega arith)
+
+  deep_by : (place u : ℕ) (op : Op) (p : Place) (left right : tree.Expr) (rest : Nodes) → NoDeeper (update_by f place u op p left right rest) 1 rest
+  deep_by place u op p left right rest =
+      deep_either (is_atomic (tree.type_of left)) _ _ _ _ (deep_change (tree.place_of left) (is_minus op) _ p u None rest)
+      (deep_weak _ _ _ _ (deep_step _ _ _ _ _ (deep_one _ _ _) (deep_step _ _ _ _ _ (deep_computes f.structs place op _ _ _ _ _ _) (deep_one _ _ _))) (omega arith))
+
   deep_update : (place : ℕ) (op : Op) (o : Option ℕ) (left right : tree.Expr) (t : ℕ) (rest : Nodes) → NoDeeper (update_nodes f place op o left right t rest) (max (3 * expr_depth left) (max (3 * expr_depth right) 1)) rest
   deep_update place op None left right t rest =
-      deep_step _ _ _ _ _ (deep_place f left t _) (deep_step _ _ _ _ _ (deep_expr f right _ _) (deep_weak _ _ _ _ (deep_step _ _ _ _ _ (deep_one _ _ _)
-      (deep_step _ _ _ _ _ (deep_computes f.structs place op _ _ _ _ _ _) (deep_one _ _ _))) (omega arith)))
+      deep_step _ _ _ _ _ (deep_place f left t _) (deep_step _ _ _ _ _ (deep_expr f right _ _) (deep_by place _ op _ left right rest))
   deep_update place op (Some n) left right t rest =
       deep_weak _ _ _ _ (deep_step _ _ _ _ _ (deep_expr f right t _) (deep_step _ _ _ _ _ (deep_one _ _ _) (deep_computes f.structs place op _ _ _ _ _ rest))) (omega arith)
 

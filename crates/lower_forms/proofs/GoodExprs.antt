@@ -6,18 +6,21 @@ use Rattle.std.proofs.lemmas.Bool.{and_from}
 use Rattle.std.specs.Prelude.{nat_lt, slice_get}
 use Rattle.std.specs.List.{list_all}
 use Rattle.ak_words.specs.IntType.{int, unsigned_long}
+use Rattle.ak_words.specs.declared.int_type.IntType.{IntType}
+use Rattle.block_store.specs.declared.values.Change.{Change}
+use Rattle.block_store.specs.declared.values.Change.TheVariants.{Add, Swap}
 use Rattle.c_tree.specs.Typed as tree
-use Rattle.c_tree.specs.TypedForm.{IsPointer, HasBits, ArePrinted, Signature, CanStart, InScope, IsNth, AreArguments, IsLibCall, IsTyped, IsTypedNode, AreTyped}
+use Rattle.c_tree.specs.TypedForm.{IsPointer, HasBits, ArePrinted, Signature, CanStart, InScope, IsNth, AreArguments, IsAtomicCall, IsLibCall, IsTyped, IsTypedNode, AreTyped}
 use Rattle.c_tree.specs.TypedPrinting.{takes_number, takes_text}
 use Rattle.c_meaning.specs.Values.{element_size}
 use Rattle.struct_ir.specs.Nodes.{Place, Nodes, no_nodes, more_nodes, plain, call}
 use Rattle.struct_ir.specs.Nodes as ir
 use Rattle.struct_ir.specs.Lists.{bare_place}
-use Rattle.struct_ir.specs.Valid.{Scope, Around, is_below_if, are_below, is_calc, is_place, has_params, has_width, is_piece}
+use Rattle.struct_ir.specs.Valid.{Scope, Around, is_below_if, are_below, is_promoted, is_calc, is_place, has_params, has_width, is_piece}
 use Rattle.lower_forms.specs.Counts.{count, count_parts, count_all}
-use Rattle.lower_forms.specs.Forms.{Frame, home, first_temp, calls, Reach, found, direct, indexed, at_temp, behind, member_reach, register_if, is_pointer, register_of, register_in, direct_if, indexed_if, pointer_register, pointed, reach, local_value, local_place, converts, sum_calc, temps_of, is_number, with_if, number_temps, text_places, lib_nodes, expr_nodes, value_nodes, place_nodes, object_place, args_nodes}
+use Rattle.lower_forms.specs.Forms.{Frame, home, first_temp, acts, calls, Reach, found, direct, indexed, at_temp, behind, member_reach, register_if, is_pointer, register_of, register_in, direct_if, indexed_if, pointer_register, pointed, reach, local_value, local_place, converts, sum_calc, temps_of, is_number, with_if, number_temps, text_places, pointed_number, changed_number, change_nodes, lib_nodes, expr_nodes, value_nodes, place_nodes, object_place, args_nodes}
 use Rattle.lower_forms.proofs.Operands.{operands_promoted}
-use Rattle.lower_forms.proofs.Pieces.{Good, below, good_none, good_set, good_step, good_branches, good_int, good_long, good_truth, InReach, temp_in, member_in, good_loads, store_step, copy_step, good_object, good_member}
+use Rattle.lower_forms.proofs.Pieces.{Good, promoted_is, below, good_none, good_set, good_step, good_branches, good_int, good_long, good_truth, InReach, temp_in, member_in, good_loads, store_step, copy_step, good_object, good_member}
 
 -- ---- formats
 
@@ -73,9 +76,19 @@ args_many (ty ∷ ts) (tree.more_exprs e es) h = omega (arith, at_least_one e, a
 args_many [] (tree.more_exprs e es) h = absurd h
 args_many (ty ∷ ts) tree.no_exprs h = absurd h
 
+atomic_many : (others : IntType → List tree.Ty) (result : IntType → tree.Ty) (es : tree.Exprs) (ty : tree.Ty) (n : ℕ) → ((u : IntType) → length (others u) ≡ n) → IsAtomicCall others result es ty → suc n ≤ count_all es
+atomic_many others result tree.no_exprs ty n l h = elim h [ ]
+atomic_many others result (tree.more_exprs e es) ty n l h = omega (arith, at_least_one e, args_many (others h.0) es h.3, l h.0)
+
+-- the number that is changed has 32 or 64 bits
+changed_promoted : (others : IntType → List tree.Ty) (result : IntType → tree.Ty) (es : tree.Exprs) (ty : tree.Ty) → IsAtomicCall others result es ty → is_promoted (changed_number es) ≡ true
+changed_promoted others result tree.no_exprs ty h = elim h [ ]
+changed_promoted others result (tree.more_exprs e es) ty h = ap (λ (u : tree.Ty). is_promoted (pointed_number u)) h.1 ∙ promoted_is h.0 h.2
+
 number_has : (bits : ℕ) (ty : tree.Ty) → HasBits bits ty → is_number ty ≡ true
 number_has bits tree.void h = elim h [ ]
 number_has bits (tree.integer s) h = refl
+number_has bits (tree.atomic s) h = elim h [ ]
 number_has bits tree.mutex h = elim h [ ]
 number_has bits (tree.pointer s) h = elim h [ ]
 number_has bits (tree.array s n) h = elim h [ ]
@@ -84,6 +97,7 @@ number_has bits (tree.structure n) h = elim h [ ]
 pointer_has_none : (ty : tree.Ty) → IsPointer ty → is_number ty ≡ false
 pointer_has_none tree.void h = elim h [ ]
 pointer_has_none (tree.integer s) h = elim h [ ]
+pointer_has_none (tree.atomic s) h = elim h [ ]
 pointer_has_none tree.mutex h = elim h [ ]
 pointer_has_none (tree.pointer s) h = refl
 pointer_has_none (tree.array s n) h = elim h [ ]
@@ -163,6 +177,22 @@ module _ (x : Scope) where
   texts_bare tree.no_exprs t = refl
   texts_bare (tree.more_exprs e es) t = with_if_bare (not (is_number (tree.type_of e))) t _ (texts_bare es (suc t))
 
+  -- one place, one register, and a result that may be dropped
+  change_step : (a : Around) (place : ℕ) (how : Change) (ty : IntType) (p : Place) (u : ℕ) (to : Option ℕ) (rest : Nodes) → is_promoted ty ≡ true → is_place x p ≡ true → bare_place p ≡ p → u < x.temps → is_below_if x.temps to ≡ true
+      → Good x a rest → Good x a (acts place (ir.change how ty) (p ∷ []) to (u ∷ []) rest)
+  change_step a place how ty p u to rest q h b k w g = good_step x a place _ rest (record {
+    valid = and_from _ _ (and_from _ _ (and_from _ _ h refl) (and_from _ _ (and_from _ _ (below x u k) refl) w)) (and_from _ _ refl (and_from _ _ q refl));
+    bare = λ i. record { action = ir.change how ty; places = b i ∷ []; to = to; temps = u ∷ []; slots = [] };
+  }) g
+
+  pub good_change : (a : Around) (place : ℕ) (away : Bool) (ty : IntType) (p : Place) (u : ℕ) (to : Option ℕ) (rest : Nodes) → is_promoted ty ≡ true → is_place x p ≡ true → bare_place p ≡ p → suc u < x.temps → is_below_if x.temps to ≡ true
+      → Good x a rest → Good x a (change_nodes place away ty p u to rest)
+  good_change a place false ty p u to rest q h b k w g = change_step a place Add ty p u to rest q h b (omega (arith, k)) w g
+  good_change a place true ty p u to rest q h b k w g =
+      let m : u < x.temps = omega (arith, k) in
+      good_set x a place u _ _ m (below x u m) (good_set x a place (suc u) _ _ k refl
+      (good_set x a place u _ _ m (and_from _ _ q (and_from _ _ (below x (suc u) k) (below x u m))) (good_set x a place u _ _ m (below x u m) (change_step a place Add ty p u to rest q h b m w g))))
+
   pub good_call : (a : Around) (place : ℕ) (to : Option ℕ) (function : ℕ) (temps : List ℕ) (rest : Nodes) → is_below_if x.temps to ≡ true → are_below x.temps temps ≡ true
       → has_params (slice_get x.params function) (length temps) ≡ true → Good x a rest → Good x a (calls place to function temps rest)
   good_call a place to function temps rest h k p g = record {
@@ -241,6 +271,26 @@ module _ (x : Scope) (c : InScope) (f : Frame) (s : Suits x c f) where
     valid = and_from _ _ (and_from _ _ (and_from _ _ (temp_in x t (omega (arith, k))) refl) refl) refl;
     bare = refl;
   }) g
+  good_lib a place tree.atomic_add es ty t rest h k g =
+      let m : 2 ≤ count_all es = atomic_many (λ u. tree.integer u ∷ []) (λ u. tree.integer u) es ty 1 (λ u. refl) h in
+      good_change x a place false (changed_number es) (at_temp t) (suc t) (Some t) rest (changed_promoted (λ s. tree.integer s ∷ []) (λ s. tree.integer s) es ty h) (temp_in x t (omega (arith, k))) refl (omega (arith, k, m)) (below x t (omega (arith, k))) g
+  good_lib a place tree.atomic_sub es ty t rest h k g =
+      let m : 2 ≤ count_all es = atomic_many (λ u. tree.integer u ∷ []) (λ u. tree.integer u) es ty 1 (λ u. refl) h in
+      good_change x a place true (changed_number es) (at_temp t) (suc t) (Some t) rest (changed_promoted (λ s. tree.integer s ∷ []) (λ s. tree.integer s) es ty h) (temp_in x t (omega (arith, k))) refl (omega (arith, k, m)) (below x t (omega (arith, k))) g
+  good_lib a place tree.atomic_swap es ty t rest h k g =
+      let m : 2 ≤ count_all es = atomic_many (λ u. tree.integer u ∷ []) (λ u. tree.integer u) es ty 1 (λ u. refl) h in
+      change_step x a place Swap (changed_number es) (at_temp t) (suc t) (Some t) rest (changed_promoted (λ s. tree.integer s ∷ []) (λ s. tree.integer s) es ty h) (temp_in x t (omega (arith, k))) refl (omega (arith, k, m)) (below x t (omega (arith, k))) g
+  good_lib a place tree.atomic_compare es ty t rest h k g =
+      let m : 3 ≤ count_all es = atomic_many (λ u. tree.pointer (tree.integer u) ∷ tree.integer u ∷ []) (λ u. tree.integer int) es ty 2 (λ u. refl) h in
+      good_step x a place _ rest (record {
+        valid = and_from _ _ (and_from _ _ (and_from _ _ (temp_in x t (omega (arith, k))) (and_from _ _ (temp_in x (suc t) (omega (arith, k, m))) refl))
+            (and_from _ _ (and_from _ _ (below x (suc (suc t)) (omega (arith, k, m))) refl) (below x t (omega (arith, k)))))
+            (and_from _ _ refl (and_from _ _ (changed_promoted (λ s. tree.pointer (tree.integer s) ∷ tree.integer s ∷ []) (λ s. tree.integer int) es ty h) refl));
+        bare = refl;
+      }) g
+  good_lib a place tree.atomic_store es ty t rest h k g =
+      let m : 2 ≤ count_all es = atomic_many (λ u. tree.integer u ∷ []) (λ u. tree.void) es ty 1 (λ u. refl) h in
+      store_step x a place (tree.integer (changed_number es)) (at_temp t) (suc t) rest (temp_in x t (omega (arith, k))) refl (omega (arith, k, m)) g
 
   -- ---- where objects are reached
 
@@ -380,6 +430,7 @@ module _ (x : Scope) (c : InScope) (f : Frame) (s : Suits x c f) where
   good_converts : (a : Around) (place : ℕ) (ty : tree.Ty) (t : ℕ) (rest : Nodes) → t < x.temps → Good x a rest → Good x a (converts place ty t rest)
   good_converts a place tree.void t rest h g = g
   good_converts a place (tree.integer s) t rest h g = good_set x a place t _ rest h (below x t h) g
+  good_converts a place (tree.atomic s) t rest h g = g
   good_converts a place tree.mutex t rest h g = g
   good_converts a place (tree.pointer s) t rest h g = g
   good_converts a place (tree.array s n) t rest h g = g

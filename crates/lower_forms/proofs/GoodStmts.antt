@@ -7,17 +7,25 @@ use Rattle.std.specs.Prelude.{nat_lt}
 use Rattle.ak_words.specs.declared.int_type.IntType.{IntType}
 use Rattle.ak_words.specs.declared.operation.Op.{Op}
 use Rattle.c_tree.specs.Typed as tree
-use Rattle.c_tree.specs.TypedForm.{InScope, IsScalar, Inside, IsPromoted, IsStep, IfTyped, IsTyped, IsTypedNode, Jumps, in_function, in_loop, in_switch, stmts_count, IsSwitched, IsLabel, IsWell, IsWellNode, AreWell}
-use Rattle.c_meaning.specs.Values.{is_scalar, operand_types}
+use Rattle.c_tree.specs.TypedForm.{InScope, IsScalar, CanUpdate, Inside, IsPromoted, IsStep, IfTyped, IsTyped, IsTypedNode, Jumps, in_function, in_loop, in_switch, stmts_count, IsSwitched, IsLabel, IsWell, IsWellNode, AreWell}
+use Rattle.c_meaning.specs.Values.{is_scalar, is_atomic, operand_types, is_minus}
 use Rattle.c_meaning.specs.Switches.{default_from, stands_at}
 use Rattle.c_meaning.specs.Turns.{is_struct}
-use Rattle.struct_ir.specs.Nodes.{Nodes, no_nodes, more_nodes, plain, begin_object}
-use Rattle.struct_ir.specs.Valid.{Scope, Around, body_of, latch_of}
+use Rattle.struct_ir.specs.Nodes.{Place, Nodes, no_nodes, more_nodes, plain, begin_object}
+use Rattle.struct_ir.specs.Valid.{Scope, Around, body_of, latch_of, is_promoted, is_place}
+use Rattle.struct_ir.specs.Lists.{bare_place}
 use Rattle.lower_forms.specs.Counts.{count, count_parts, count_if, greatest, greatest_in, greatest_row, switches, switches_by, switches_in}
-use Rattle.lower_forms.specs.Forms.{Frame, looped, switched, home, first_temp, behind, reach, is_void, number_type, value_nodes, object_place, dropped_nodes, dropped_value, begins, with_home, home_in, declared_home, objects_by, objects_in, initialises, store_nodes, copy_nodes, own_register, assign_nodes, number_update, computes, update_nodes, equal_nodes, choose_nodes, begin_if, label_nodes, stmt_place, guarded, break_nodes, test_nodes, stmt_nodes, form_nodes, row_nodes, switch_nodes}
+use Rattle.lower_forms.specs.Forms.{Frame, looped, switched, home, first_temp, behind, reach, is_void, number_type, change_nodes, value_nodes, object_place, dropped_nodes, dropped_value, begins, with_home, home_in, declared_home, objects_by, objects_in, initialises, store_nodes, copy_nodes, own_register, assign_nodes, number_update, computes, update_at, update_nodes, equal_nodes, choose_nodes, begin_if, label_nodes, stmt_place, guarded, break_nodes, test_nodes, stmt_nodes, form_nodes, row_nodes, switch_nodes}
 use Rattle.lower_forms.proofs.Operands.{operand_promoted, moves_fits}
 use Rattle.lower_forms.proofs.Pieces.{Good, below, good_none, good_set, good_branches, good_loop, good_break, good_next, good_ret, good_int, good_long, place_in, place_bare, temp_in, load_step, store_step, copy_step, AreObjects, objects_both, good_ends, promoted_is}
-use Rattle.lower_forms.proofs.GoodExprs.{Suits, at_least_one, temps_below, good_call, called, BelowIf, register_below, local_below, reach_fits, good_expr, good_value, good_place, good_object_place, good_args}
+use Rattle.lower_forms.proofs.GoodExprs.{Suits, at_least_one, temps_below, good_change, good_call, called, BelowIf, register_below, local_below, reach_fits, good_expr, good_value, good_place, good_object_place, good_args}
+
+-- an atomic number that is updated has 32 or 64 bits
+atomic_promoted : (structs : List tree.Layout) (op : Op) (u v : tree.Ty) → CanUpdate structs op u v → is_atomic u ≡ true → is_promoted (number_type u) ≡ true
+atomic_promoted structs op (tree.integer u) (tree.integer v) h e = absurd cc
+atomic_promoted structs op (tree.atomic u) (tree.integer v) h e = promoted_is u h.2
+atomic_promoted structs op (tree.pointer u) (tree.integer v) h e = absurd cc
+atomic_promoted structs op u v h e = elim h [ ]
 
 -- a break and a continue may stand there, where the tree has them: under a flag a break leaves no loop
 pub record Jumping (j : Jumps) (flag : Option ℕ) (a : Around) : Type 0 where
@@ -183,21 +191,30 @@ module _ (x : Scope) (c : InScope) (f : Frame) (s : Suits x c f) where
       → Good x a rest → Good x a (computes f.structs place op u v m n to rest)
   good_computes a place op (tree.integer u) v m n to rest h i j g = good_number_update a place op u (number_type v) m n to rest h i j g
   good_computes a place op tree.void v m n to rest h i j g = good_moves a place op m n to _ rest h i j g
+  good_computes a place op (tree.atomic u) v m n to rest h i j g = good_moves a place op m n to _ rest h i j g
   good_computes a place op tree.mutex v m n to rest h i j g = good_moves a place op m n to _ rest h i j g
   good_computes a place op (tree.pointer u) v m n to rest h i j g = good_moves a place op m n to _ rest h i j g
   good_computes a place op (tree.array u l) v m n to rest h i j g = good_moves a place op m n to _ rest h i j g
   good_computes a place op (tree.structure l) v m n to rest h i j g = good_moves a place op m n to _ rest h i j g
 
-  good_update : (place : ℕ) (op : Op) (o : Option ℕ) (left right : tree.Expr) → BelowIf x c f s o → IsTyped c left → IsTyped c right → (t : ℕ) → t + suc (count left + count right) ≤ x.temps → (a : Around) (rest : Nodes)
+  -- an object that is updated, whose place was found
+  good_by : (place : ℕ) (op : Op) (p : Place) (left right : tree.Expr) (b : Bool) → is_atomic (tree.type_of left) ≡ b → CanUpdate c.structs op (tree.type_of left) (tree.type_of right)
+      → (u : ℕ) → suc u < x.temps → is_place x p ≡ true → bare_place p ≡ p → (a : Around) (rest : Nodes)
+      → Good x a rest → Good x a (if b then change_nodes (tree.place_of left) (is_minus op) (number_type (tree.type_of left)) p u None rest else update_at f place u op p left right rest)
+  good_by place op p left right true e h u k i j a rest g =
+      good_change x a _ (is_minus op) _ p u None rest (atomic_promoted c.structs op (tree.type_of left) (tree.type_of right) h e) i j k refl g
+  good_by place op p left right false e h u k i j a rest g =
+      let v : u < x.temps = omega (arith, k) in
+      load_step x a _ (tree.type_of left) p (suc u) _ i j k (good_computes a place op _ _ _ _ _ _ k v v (store_step x a _ (tree.type_of left) p u rest i j v g))
+
+  good_update : (place : ℕ) (op : Op) (o : Option ℕ) (left right : tree.Expr) → BelowIf x c f s o → IsTyped c left → IsTyped c right → CanUpdate c.structs op (tree.type_of left) (tree.type_of right) → (t : ℕ) → t + suc (count left + count right) ≤ x.temps → (a : Around) (rest : Nodes)
       → Good x a rest → Good x a (update_nodes f place op o left right t rest)
-  good_update place op None left right w h i t k a rest g =
+  good_update place op None left right w h i can t k a rest g =
       let r = reach_fits x c f s left h t (omega (arith, k)) in
       let u : suc (behind (reach f left) t) < x.temps = omega (arith, k, r.next, at_least_one right) in
-      let v : behind (reach f left) t < x.temps = omega (arith, u) in
       good_place x c f s left h t (omega (arith, k)) a _ (good_expr x c f s right i _ (omega (arith, k, r.next)) a _
-      (load_step x a _ _ _ _ _ (place_in x _ t r.inside) (place_bare x _ t) u
-      (good_computes a place op _ _ _ _ _ _ u v v (store_step x a _ _ _ _ rest (place_in x _ t r.inside) (place_bare x _ t) v g))))
-  good_update place op (Some n) left right w h i t k a rest g =
+      (good_by place op _ left right (is_atomic (tree.type_of left)) refl can _ u (place_in x _ t r.inside) (place_bare x _ t) a rest g))
+  good_update place op (Some n) left right w h i can t k a rest g =
       let u : suc t < x.temps = omega (arith, k, at_least_one left) in
       good_expr x c f s right i t (omega (arith, k)) a _ (good_set x a _ (suc t) _ _ u (below x n w)
       (good_computes a place op _ _ _ _ _ rest u (omega (arith, k)) w g))
@@ -322,7 +339,7 @@ module _ (x : Scope) (c : InScope) (params : ℕ) (result : tree.Ty) where
     good_form f s place (tree.assign (tree.at p ty node) e) b h k a l left o rest g =
         good_assign x c f s place (own_register f node) (tree.at p ty node) e (own_fits x c f s ty node h.0) h.0 h.1 (first_temp f) (omega (arith, k)) a rest g
     good_form f s place (tree.update (tree.at p ty node) op e) b h k a l left o rest g =
-        good_update x c f s place op (own_register f node) (tree.at p ty node) e (own_fits x c f s ty node h.0) h.0 h.1 (first_temp f) (omega (arith, k)) a rest g
+        good_update x c f s place op (own_register f node) (tree.at p ty node) e (own_fits x c f s ty node h.0) h.0 h.1 h.3 (first_temp f) (omega (arith, k)) a rest g
     good_form f s place (tree.evaluate e) b h k a l left o rest g = good_dropped x c f s e h (first_temp f) (omega (arith, k)) a rest g
     good_form f s place tree.empty b h k a l left o rest g = g
 

@@ -10,9 +10,10 @@ use Rattle.ak_words.specs.declared.operation.Op.{Op}
 use Rattle.ak_words.specs.declared.operation.Op.TheVariants as ops
 use Rattle.ak_words.specs.IntType.{int, unsigned_long}
 use Rattle.block_store.specs.declared.values.Access.TheVariants as accesses
+use Rattle.block_store.specs.declared.values.Change.TheVariants.{Add, Swap}
 use Rattle.c_tree.specs.Typed as tree
 use Rattle.c_tree.specs.TypedLayout.{size_in, align_in}
-use Rattle.c_meaning.specs.Values.{access_of_type, is_scalar, element_size, member_offset, operand_types}
+use Rattle.c_meaning.specs.Values.{access_of_type, is_scalar, is_atomic, element_size, member_offset, operand_types, is_minus}
 use Rattle.c_meaning.specs.Switches.{default_from, stands_at}
 use Rattle.c_meaning.specs.Turns.{is_struct}
 use Rattle.struct_ir.specs.Nodes.{Calc, Place, Action, Nodes, no_nodes, more_nodes, plain, if_, loop, break_, next_, ret, set, call, step, begin_object, end_object}
@@ -204,10 +205,37 @@ abbrev pub sum_calc : (pointer_first : Bool) → (t u size : ℕ) → Calc
 sum_calc true t u size = ir.pointer_add t u size
 sum_calc false t u size = ir.pointer_add u t size
 
--- the type of the numbers of an operand; in a well formed tree there's no other operand
+-- the type of the numbers of an operand or of an object, also of an atomic one; where it's asked, a well formed tree has no other
 abbrev pub number_type : tree.Ty → IntType
 number_type (tree.integer t) = t
+number_type (tree.atomic t) = t
 number_type ty = int
+
+-- the type of the numbers to which a pointer of this type leads
+abbrev pub pointed_number : tree.Ty → IntType
+pointed_number (tree.pointer to) = number_type to
+pointed_number ty = int
+
+-- and the first argument of a call
+abbrev pub changed_number : tree.Exprs → IntType
+changed_number tree.no_exprs = int
+changed_number (tree.more_exprs e rest) = pointed_number (tree.type_of e)
+
+-- the unsigned type of the same width (C11 6.2.5 p6)
+abbrev pub unsigned_of : IntType → IntType
+unsigned_of t = record { signed = false; bits = t.bits; known_width = t.known_width }
+
+-- 0 minus the number in u, which is of this type: it is taken in the unsigned one, so that the least number breaks nothing, and the
+-- register behind u takes the 0
+abbrev pub opposite_nodes : (place : ℕ) → IntType → (u : ℕ) → Nodes → Nodes
+opposite_nodes place t u rest =
+    sets place u (ir.convert (unsigned_of t) u) (sets place (suc u) (ir.constant (unsigned_of t) (pos 0))
+    (sets place u (ir.apply ops.Sub (unsigned_of t) (suc u) u) (sets place u (ir.convert t u) rest)))
+
+-- the number in u is added to the one at a place, or taken away from it, in one action (C11 7.17.7.5)
+abbrev pub change_nodes : (place : ℕ) → (away : Bool) → IntType → Place → (u : ℕ) → (to : Option ℕ) → Nodes → Nodes
+change_nodes place false t at u to rest = acts place (ir.change Add t) (at ∷ []) to (u ∷ []) rest
+change_nodes place true t at u to rest = opposite_nodes place t u (acts place (ir.change Add t) (at ∷ []) to (u ∷ []) rest)
 
 -- the registers of arguments, the first of them in t
 abbrev pub temps_of : tree.Exprs → (t : ℕ) → List ℕ
@@ -234,7 +262,7 @@ abbrev pub text_places : tree.Exprs → (t : ℕ) → List Place
 text_places tree.no_exprs t = []
 text_places (tree.more_exprs e rest) t = with_if (not (is_number (tree.type_of e))) (at_temp t) (text_places rest (suc t))
 
--- a call of the library, whose arguments stand in the registers from t on; its value comes to t (C11 7.21, 7.22, 7.24, 7.26)
+-- a call of the library, whose arguments stand in the registers from t on; its value comes to t (C11 7.17, 7.21, 7.22, 7.24, 7.26)
 abbrev pub lib_nodes : (place : ℕ) → tree.Lib → tree.Exprs → (t : ℕ) → Nodes → Nodes
 lib_nodes place (tree.print pieces) args t rest = acts place (ir.print pieces) (text_places args t) (Some t) (number_temps args t) rest
 lib_nodes place tree.malloc args t rest = acts place ir.malloc [] (Some t) (t ∷ []) rest
@@ -249,6 +277,11 @@ lib_nodes place tree.mutex_init args t rest =
 lib_nodes place tree.mutex_lock args t rest = acts place ir.lock (at_temp t ∷ []) None [] (sets_int place t 0 rest)
 lib_nodes place tree.mutex_unlock args t rest = acts place ir.unlock (at_temp t ∷ []) None [] (sets_int place t 0 rest)
 lib_nodes place tree.mutex_destroy args t rest = acts place ir.destroy (at_temp t ∷ []) None [] rest
+lib_nodes place tree.atomic_add args t rest = change_nodes place false (changed_number args) (at_temp t) (suc t) (Some t) rest
+lib_nodes place tree.atomic_sub args t rest = change_nodes place true (changed_number args) (at_temp t) (suc t) (Some t) rest
+lib_nodes place tree.atomic_swap args t rest = acts place (ir.change Swap (changed_number args)) (at_temp t ∷ []) (Some t) (suc t ∷ []) rest
+lib_nodes place tree.atomic_compare args t rest = acts place (ir.compare (changed_number args)) (at_temp t ∷ at_temp (suc t) ∷ []) (Some t) (suc (suc t) ∷ []) rest
+lib_nodes place tree.atomic_store args t rest = acts place (ir.store (accesses.Number (changed_number args))) (at_temp t ∷ []) None (suc t ∷ []) rest
 
 -- ---- expressions
 
@@ -428,17 +461,23 @@ update_register f place number op left right t rest =
     expr_nodes f right t (sets (tree.place_of left) (suc t) (ir.copy number)
     (computes f.structs place op (tree.type_of left) (tree.type_of right) (suc t) t number rest))
 
--- a op= b where a is an object, whose place is found first; u holds b, and the register behind it a
+-- a op= b where a is an object that is read and stored, whose place is found first; u holds b, and the register behind it a
 abbrev pub update_at : Frame → (place u : ℕ) → Op → Place → (left right : tree.Expr) → Nodes → Nodes
 update_at f place u op at left right rest =
     acts (tree.place_of left) (ir.load (access_of_type (tree.type_of left))) (at ∷ []) (Some (suc u)) []
     (computes f.structs place op (tree.type_of left) (tree.type_of right) (suc u) u u
     (acts (tree.place_of left) (ir.store (access_of_type (tree.type_of left))) (at ∷ []) None (u ∷ []) rest))
 
+-- the same, but an object that is atomic is changed in one action
+abbrev pub update_by : Frame → (place u : ℕ) → Op → Place → (left right : tree.Expr) → Nodes → Nodes
+update_by f place u op at left right rest =
+    if is_atomic (tree.type_of left) then change_nodes (tree.place_of left) (is_minus op) (number_type (tree.type_of left)) at u None rest
+    else update_at f place u op at left right rest
+
 -- the place is found, then b is evaluated
 abbrev pub update_object : Frame → (place : ℕ) → Op → (left right : tree.Expr) → (t : ℕ) → Nodes → Nodes
 update_object f place op left right t rest =
-    place_nodes f left t (expr_nodes f right (behind (reach f left) t) (update_at f place (behind (reach f left) t) op (reached (reach f left) t) left right rest))
+    place_nodes f left t (expr_nodes f right (behind (reach f left) t) (update_by f place (behind (reach f left) t) op (reached (reach f left) t) left right rest))
 
 -- a compound assignment, by the register that it sets, if it sets one
 abbrev pub update_nodes : Frame → (place : ℕ) → Op → Option ℕ → (left right : tree.Expr) → (t : ℕ) → Nodes → Nodes

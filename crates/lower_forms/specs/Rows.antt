@@ -1,8 +1,9 @@
 -- Worked rows: small pieces of C and the code that they are lowered to, written by hand.
 use Rattle.std.specs.Prelude.{◌≡◌, ℕ, pos, true, false, List, [], ◌∷◌, Option, Some, None}
-use Rattle.ak_words.specs.declared.operation.Op.TheVariants.{Add, Mul}
-use Rattle.ak_words.specs.IntType.{char, int, unsigned_long}
+use Rattle.ak_words.specs.declared.operation.Op.TheVariants.{Add, Sub, Mul}
+use Rattle.ak_words.specs.IntType.{char, int, unsigned_int, unsigned_long}
 use Rattle.block_store.specs.declared.values.Access.TheVariants as accesses
+use Rattle.block_store.specs.declared.values.Change.TheVariants as changes
 use Rattle.c_tree.specs.Typed as tree
 use Rattle.struct_ir.specs.Nodes as ir
 use Rattle.lower_forms.specs.Programs.{lowered}
@@ -95,6 +96,35 @@ grow_code = record {
       ∷ sets 46 1 (ir.copy 0) ∷ sets 48 2 (ir.constant int (pos 100)) ∷ sets 48 2 (ir.convert unsigned_long 2) ∷ acts 38 ir.realloc [] (Some 1) (1 ∷ 2 ∷ []) ∷ sets 37 0 (ir.copy 1) ∷ []);
 }
 
+-- a pointer to an _Atomic int, local 0, at this place
+abbrev pub atomic_star : (place : ℕ) → tree.Expr
+atomic_star place = tree.at place (tree.pointer (tree.atomic int)) (tree.local 0)
+
+-- an int, at this place
+abbrev pub an_int : (place n : ℕ) → tree.Expr
+an_int place n = tree.at place (tree.integer int) (tree.num int (pos n))
+
+-- void change(void){_Atomic int *a;int *e; .. *a-=2;atomic_compare_exchange_strong(a,e,3);atomic_store(a,4);}
+abbrev pub change : tree.Func
+change = func tree.void (kept (tree.pointer (tree.atomic int)) ∷ kept (tree.pointer (tree.integer int)) ∷ [])
+    (tree.at_stmt 30 (tree.update (tree.at 28 (tree.atomic int) (tree.deref (atomic_star 29))) Sub (an_int 32 2))
+    ∷ tree.at_stmt 40 (tree.evaluate (tree.at 40 (tree.integer int) (tree.lib tree.atomic_compare
+    (tree.more_exprs (atomic_star 41) (tree.more_exprs (tree.at 42 (tree.pointer (tree.integer int)) (tree.local 1)) (tree.more_exprs (an_int 43 3) tree.no_exprs))))))
+    ∷ tree.at_stmt 50 (tree.evaluate (tree.at 50 tree.void (tree.lib tree.atomic_store (tree.more_exprs (atomic_star 51) (tree.more_exprs (an_int 52 4) tree.no_exprs))))) ∷ [])
+
+-- its code: one step each; what is taken away is 0 minus it, in the unsigned type
+abbrev pub change_code : ir.Func
+change_code = record {
+  params = 0;
+  temps = 6;
+  slots = 0;
+  objects = [];
+  nodes = row (sets 29 2 (ir.copy 0) ∷ sets 32 3 (ir.constant int (pos 2)) ∷ sets 28 3 (ir.convert unsigned_int 3) ∷ sets 28 4 (ir.constant unsigned_int (pos 0)) ∷ sets 28 3 (ir.apply Sub unsigned_int 4 3)
+      ∷ sets 28 3 (ir.convert int 3) ∷ acts 28 (ir.change changes.Add int) (at 0 ∷ []) None (3 ∷ [])
+      ∷ sets 41 2 (ir.copy 0) ∷ sets 42 3 (ir.copy 1) ∷ sets 43 4 (ir.constant int (pos 3)) ∷ acts 40 (ir.compare int) (at 2 ∷ at 3 ∷ []) (Some 2) (4 ∷ [])
+      ∷ sets 51 2 (ir.copy 0) ∷ sets 52 3 (ir.constant int (pos 4)) ∷ acts 50 (ir.store (accesses.Number int)) (at 2 ∷ []) None (3 ∷ []) ∷ []);
+}
+
 -- the value of a local of type int, by the place and its number
 abbrev pub number : (place local : ℕ) → tree.Expr
 number place local = tree.at place (tree.integer int) (tree.local local)
@@ -132,3 +162,4 @@ main_code = record {
 pub record RowsHold : Type 0 where
   pub lowered_program : lowered (program main churn) ≡ record { globals = []; literals = []; funcs = churn_code ∷ main_code ∷ []; main = 1 }
   pub lowered_allocations : lowered (program main grow) ≡ record { globals = []; literals = []; funcs = grow_code ∷ main_code ∷ []; main = 1 }
+  pub lowered_changes : lowered (program main change) ≡ record { globals = []; literals = []; funcs = change_code ∷ main_code ∷ []; main = 1 }

@@ -2,6 +2,7 @@
 use Rattle.std.proofs.Common.{◌≡◌, ℕ, zero, suc, Bool, true, false, List, [], ◌∷◌, ◌++◌, length, set, Option, Some, None, Result, Ok, Err, ℤ, refl, subst, ◌==◌, ◌^◌, nat_lt, if◌then◌else◌}
 use Rattle.std.specs.Prelude.{slice_get}
 use Rattle.std.specs.List.{AllByRecursion}
+use Rattle.ak_words.specs.declared.int_type.IntType.{IntType}
 use Rattle.ak_words.specs.declared.rule.Rule.{Rule}
 use Rattle.ak_words.specs.declared.rule.Rule.TheVariants.{C14}
 use Rattle.ak_words.specs.IntType.{int}
@@ -10,16 +11,19 @@ use Rattle.block_store.specs.declared.values.Access.TheVariants as accesses
 use Rattle.block_store.specs.declared.values.Answer.{Answer}
 use Rattle.block_store.specs.declared.values.Answer.TheVariants as answers
 use Rattle.block_store.specs.declared.values.Cell.{Cell}
+use Rattle.block_store.specs.declared.values.Change.{Change}
 use Rattle.block_store.specs.declared.values.Ptr.{Ptr}
 use Rattle.block_store.specs.declared.values.Ptr.TheVariants.{To}
 use Rattle.block_store.specs.declared.values.Value.{Value}
 use Rattle.block_store.specs.declared.values.Value.TheVariants as values
-use Rattle.block_store.specs.Actions.{World, ThreadRecord, Stage, running, returned, joined, at_stage, staged, staged_if, with_blocks, Done, went, blocked, unfit, broke, under, settled, chosen, gives, changes, changes_or_waits, passes, all_bytes, prints, renews, starts, next_number, stored_unless_null, joins, joins_at, joins_if, result_of, acted, beginning}
+use Rattle.block_store.specs.Actions.{World, ThreadRecord, Stage, running, returned, joined, at_stage, staged, staged_if, with_blocks, Done, went, blocked, unfit, broke, under, settled, chosen, gives, changes, changes_or_waits, passes, all_bytes, prints, changes_number, compares, renews, starts, next_number, stored_unless_null, joins, joins_at, joins_if, result_of, acted, beginning}
 use Rattle.block_store.specs.Actions as actions
+use Rattle.block_store.specs.Atomics.{Changed, changed, Compared, compared}
 use Rattle.block_store.specs.Blocks.{Blocks, made, loaded, stored, copied, freed, renewed}
 use Rattle.block_store.specs.Mutexes.{locked, unlocked, destroyed}
 use Rattle.block_store.specs.Actions.{Printed, Reached, telling}
 use Rattle.c_tree.specs.Typed as tree
+use Rattle.c_meaning.proofs.TypedActions.{OldIs, old_is}
 use Rattle.lower_turns.proofs.Relation.{HasKind, CanBegin, AllBegin}
 use Rattle.lower_turns.proofs.Values.{loaded_kind}
 use Rattle.block_store.specs.declared.values.BlockKind.TheVariants.{Heap}
@@ -75,6 +79,14 @@ module _ (t : tree.Typed) where
       → IfWent (GivesKind accesses.Pointer) (if b then went (Some (values.Pointer (To (length w.blocks) 0))) (with_blocks w (made w.blocks size Heap first)) else unfit)
   allocated_so w size first true a = (tt, a)
   allocated_so w size first false a = tt
+
+  changes_number_so : (s : IntType) (w : World) (r : Result Changed Rule) → OldIs s r → AllBegin t w → IfWent (GivesKind (accesses.Number s)) (changes_number w r)
+  changes_number_so s w (Ok c) o a = (o, a)
+  changes_number_so s w (Err rule) o a = tt
+
+  compares_so : (w : World) (r : Result Compared Rule) → AllBegin t w → IfWent (GivesKind (accesses.Number int)) (compares w r)
+  compares_so w (Ok c) a = (refl, a)
+  compares_so w (Err rule) a = tt
 
   renews_so : (w : World) (size : ℕ) (r : Result Blocks Rule) → AllBegin t w → (answer : Answer) → IfWent (GivesKind accesses.Pointer) (under answer (renews w size r))
   renews_so w size (Err rule) a answers.Plain = tt
@@ -157,6 +169,12 @@ module _ (t : tree.Typed) where
 
     pub reallocate_so : (at : Ptr) (size : ℕ) → IfWent (GivesKind accesses.Pointer) (acted w thread answer (actions.reallocate at size))
     reallocate_so at size = telling_so _ _ _ (renews_so w size (renewed w.blocks at size) all answer)
+
+    pub change_so : (at : Ptr) (s : IntType) (how : Change) (by : ℤ) → IfWent (GivesKind (accesses.Number s)) (acted w thread answer (actions.change at s how by))
+    change_so at s how by = telling_so _ _ _ (settled_so _ answer _ (changes_number_so s w (changed w.blocks at s how by) (old_is s w.blocks at how by) all))
+
+    pub compare_so : (at want : Ptr) (s : IntType) (new : ℤ) → IfWent (GivesKind (accesses.Number int)) (acted w thread answer (actions.compare at want s new))
+    compare_so at want s new = telling_so _ _ _ (settled_so _ answer _ (compares_so w (compared w.blocks at want s new) all))
 
     pub free_so : (at : Ptr) → IfWent GivesNone (acted w thread answer (actions.free at))
     free_so at = telling_so _ _ _ (settled_so _ answer _ (changes_so w (freed w.blocks at) all))

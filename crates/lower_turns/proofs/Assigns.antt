@@ -23,7 +23,7 @@ use Rattle.block_store.specs.Blocks.{Blocks}
 use Rattle.block_store.specs.Runs as runs
 use Rattle.block_store.specs.Runs.{Turn}
 use Rattle.c_tree.specs.Typed as tree
-use Rattle.c_tree.specs.TypedForm.{Jumps, CanUpdate}
+use Rattle.c_tree.specs.TypedForm.{Jumps, IsScalar, CanUpdate}
 use Rattle.c_tree.specs.TypedLayout.{size_in, align_in}
 use Rattle.c_meaning.specs.Values.{access_of_type, element_size, forward, backward, of_two, operand_types, computed, converted_result, value_of, updated}
 use Rattle.c_meaning.specs.Control as source
@@ -111,18 +111,19 @@ module _ (g : Setting) (ob : ℕ → Option ℕ) (b : Blocks) (go : Value → Tu
       (λ v k. leads v (binary_kind b (values.Pointer p) (values.Num n) v (backwards (element_size g.t.structs (tree.pointer u)) n.ty) tt refl k) (set_at tm to (value v)) (λ i nx ny nt. set_there tm to (value v) i nt) (set_here tm to (value v))))
 
   -- a op b of two registers comes to a third
-  pub computes_alike : (op : Op) (ta tb : tree.Ty) → CanUpdate g.t.structs op ta tb → (va vb : Value) → HasKind (access_of_type ta) va → HasKind (access_of_type tb) vb → tm x ≡ value va → tm y ≡ value vb → Leads (access_of_type ta)
+  pub computes_alike : (op : Op) (ta tb : tree.Ty) → IsScalar ta → CanUpdate g.t.structs op ta tb → (va vb : Value) → HasKind (access_of_type ta) va → HasKind (access_of_type tb) vb → tm x ≡ value va → tm y ≡ value vb → Leads (access_of_type ta)
       → Alike g (on_ok place go (updated g.t.structs b ta op va vb)) (then_ (computes g.t.structs place op ta tb x y to r) q) (own g ob tm b)
-  computes_alike op (tree.integer s) (tree.integer z) can (values.Num m) (values.Num n) ka kb e d leads =
+  computes_alike op (tree.integer s) (tree.integer z) scalar can (values.Num m) (values.Num n) ka kb e d leads =
       let types : operand_types op m.ty n.ty ≡ operand_types op s z = ap (λ k. operand_types op k n.ty) ka ∙ ap (operand_types op s) kb in
       subst (λ k. Alike g (on_ok place go (converted_result (tree.integer s) (computed op k m n))) (then_ (number_update place op s (operand_types op s z) x y to r) q) (own g ob tm b)) (sym types)
       (numbers_updated op s (operand_types op s z) m n (computed_taken op s z) e d leads)
-  computes_alike op (tree.integer s) (tree.integer z) can (values.Pointer p) vb ka kb e d leads = elim ka [ ]
-  computes_alike op (tree.integer s) (tree.integer z) can (values.Num m) (values.Pointer p) ka kb e d leads = elim kb [ ]
-  computes_alike op (tree.pointer u) (tree.integer z) can (values.Pointer p) (values.Num n) ka kb e d leads = moved_to op (element_size g.t.structs (tree.pointer u)) u p n can.0 refl e d leads
-  computes_alike op (tree.pointer u) (tree.integer z) can (values.Num m) vb ka kb e d leads = elim ka [ ]
-  computes_alike op (tree.pointer u) (tree.integer z) can (values.Pointer p) (values.Pointer o) ka kb e d leads = elim kb [ ]
-  computes_alike op ta tb can va vb ka kb e d leads = elim can [ ]
+  computes_alike op (tree.integer s) (tree.integer z) scalar can (values.Pointer p) vb ka kb e d leads = elim ka [ ]
+  computes_alike op (tree.integer s) (tree.integer z) scalar can (values.Num m) (values.Pointer p) ka kb e d leads = elim kb [ ]
+  computes_alike op (tree.pointer u) (tree.integer z) scalar can (values.Pointer p) (values.Num n) ka kb e d leads = moved_to op (element_size g.t.structs (tree.pointer u)) u p n can.0 refl e d leads
+  computes_alike op (tree.pointer u) (tree.integer z) scalar can (values.Num m) vb ka kb e d leads = elim ka [ ]
+  computes_alike op (tree.pointer u) (tree.integer z) scalar can (values.Pointer p) (values.Pointer o) ka kb e d leads = elim kb [ ]
+  computes_alike op (tree.atomic s) tb scalar can va vb ka kb e d leads = elim scalar [ ]
+  computes_alike op ta tb scalar can va vb ka kb e d leads = elim can [ ]
 
 -- ---- uses
 
@@ -229,31 +230,31 @@ module _ (g : Setting) (vs : List Variable) (ob : ℕ → Option ℕ) (b : Block
 
   -- ---- the parts of a op= b
 
-  pub update_read_goes : (place : ℕ) (x right : tree.Expr) (op : Op) (to : Ptr) (by : Value) (via rch : Reach) → Reaches tm via (start g) to → CanUpdate g.t.structs op (tree.type_of x) (tree.type_of right)
+  pub update_read_goes : (place : ℕ) (x right : tree.Expr) (op : Op) (to : Ptr) (by : Value) (via rch : Reach) → Reaches tm via (start g) to → IsScalar (tree.type_of x) → CanUpdate g.t.structs op (tree.type_of x) (tree.type_of right)
       → HasKind (access_of_type (tree.type_of right)) by → tm (behind via (start g)) ≡ value by
       → GoesE g vs ob b tm (update_read_way (here g) (update_of place x op) (values.Pointer to) by w) (suc (behind via (start g))) (access_of_type (tree.type_of x)) rch
       (computes g.t.structs place op (tree.type_of x) (tree.type_of right) (suc (behind via (start g))) (behind via (start g)) (behind via (start g))
       (forms.acts (tree.place_of x) (ir.store (access_of_type (tree.type_of x))) (reached via (start g) ∷ []) None (behind via (start g) ∷ []) r)) q
-  update_read_goes place x right op to by via rch leads can kind holds = record {
-    at = at_update_read place x right op to by via rch leads can kind holds goes.at;
+  update_read_goes place x right op to by via rch leads scalar can kind holds = record {
+    at = at_update_read place x right op to by via rch leads scalar can kind holds goes.at;
     above = omega (arith, above_behind via (start g));
     agrees = agrees;
     go = λ v a vkind below is points.
         let ne : suc (behind via (start g)) ≢ behind via (start g) = λ e. absurd (omega (arith, e)) in
         computes_alike g ob b (λ z. (place_way (here g) (tree.place_of x) (values.Pointer to) w).go z (now g vs b)) place (suc (behind via (start g))) (behind via (start g)) (behind via (start g)) ne
-        (forms.acts (tree.place_of x) (ir.store (access_of_type (tree.type_of x))) (reached via (start g) ∷ []) None (behind via (start g) ∷ []) r) q a op (tree.type_of x) (tree.type_of right) can v by vkind kind is
+        (forms.acts (tree.place_of x) (ir.store (access_of_type (tree.type_of x))) (reached via (start g) ∷ []) None (behind via (start g) ∷ []) r) q a op (tree.type_of x) (tree.type_of right) scalar can v by vkind kind is
         (below (behind via (start g)) (omega arith) ∙ holds)
         (λ z zkind c but cis.
         let under : Below (behind via (start g)) tm c = λ i lt. but i (λ e. absurd (omega (arith, lt, e))) (λ e. absurd (omega (arith, lt, e))) (λ e. absurd (omega (arith, lt, e))) ∙ below i (omega (arith, lt)) in
         (place_goes (tree.place_of x) to (access_of_type (tree.type_of x)) via found leads).go z c zkind under cis (points_found c (behind via (start g)) z cis));
   }
 
-  pub update_local_goes : (place i : ℕ) (l : tree.Local) (x right : tree.Expr) (op : Op) (rch : Reach) → slice_get g.f.locals i ≡ Some l → home (frame g) i ≡ None → tree.type_of x ≡ l.ty
+  pub update_local_goes : (place i : ℕ) (l : tree.Local) (x right : tree.Expr) (op : Op) (rch : Reach) → slice_get g.f.locals i ≡ Some l → home (frame g) i ≡ None → tree.type_of x ≡ l.ty → IsScalar (tree.type_of x)
       → CanUpdate g.t.structs op (tree.type_of x) (tree.type_of right)
       → GoesE g vs ob b tm (update_local_way (here g) (update_of place x op) i w) (start g) (access_of_type (tree.type_of right)) rch
       (sets (tree.place_of x) (suc (start g)) (ir.copy i) (computes g.t.structs place op (tree.type_of x) (tree.type_of right) (suc (start g)) (start g) i r)) q
-  update_local_goes place i l x right op rch there none is_type can = record {
-    at = at_update_local place i l x right op rch there none is_type can goes.at;
+  update_local_goes place i l x right op rch there none is_type scalar can = record {
+    at = at_update_local place i l x right op rch there none is_type scalar can goes.at;
     above = omega arith;
     agrees = agrees;
     go = λ v a kind below is points.
@@ -272,7 +273,7 @@ module _ (g : Setting) (vs : List Variable) (ob : ℕ → Option ℕ) (b : Block
           let not_start : start g ≢ suc (start g) = λ y. absurd (omega (arith, y)) in
           set_then (lowered g.t) g.thread g.answer g.cs' g.s g.t _ (tree.place_of x) (suc (start g)) (ir.copy i) (computes g.t.structs place op (tree.type_of x) (tree.type_of right) (suc (start g)) (start g) i r) q (own g ob a b) (value z)
           (ap (λ (y : Held). on_value (known (tree.place_of x) y) (λ o. Ok (value o))) e)
-          (computes_alike g ob b (λ o. w.end (now g (set vs i (source.holds o)) b)) place (suc (start g)) (start g) i ne r q (set_at a (suc (start g)) (value z)) op (tree.type_of x) (tree.type_of right) can z v
+          (computes_alike g ob b (λ o. w.end (now g (set vs i (source.holds o)) b)) place (suc (start g)) (start g) i ne r q (set_at a (suc (start g)) (value z)) op (tree.type_of x) (tree.type_of right) scalar can z v
           (subst (λ y. HasKind (access_of_type y) z) (sym is_type) zkind) kind (set_here a (suc (start g)) (value z)) (set_there a (suc (start g)) (value z) (start g) not_start ∙ is)
           (λ o okind d but dis. goes.end (set vs i (source.holds o)) b d ob
           (agrees_value g vs a ob (agrees_on g vs tm a ob (start g) (omega arith) agrees below) i l there none (source.holds o) d

@@ -12,7 +12,7 @@ use Rattle.block_store.specs.Actions.{World}
 use Rattle.block_store.specs.Blocks.{Blocks}
 use Rattle.block_store.specs.Runs as runs
 use Rattle.c_tree.specs.Typed as tree
-use Rattle.c_tree.specs.TypedForm.{Jumps, IsScalar, IsFunc, AreArguments}
+use Rattle.c_tree.specs.TypedForm.{Jumps, IsFunc, AreArguments}
 use Rattle.c_meaning.specs.Values.{access_of_type}
 use Rattle.c_meaning.specs.Control as source
 use Rattle.c_meaning.specs.Control.{Variable, Use, Todo, Wait, wanted, dropped, Callee, function, library}
@@ -27,7 +27,7 @@ use Rattle.struct_ir.specs.meaning.Threads.{passed, nodes_of, is_plain, turned}
 use Rattle.lower_forms.specs.Forms as forms
 use Rattle.lower_forms.specs.Forms.{home_or_none, temps_of, sets, found}
 use Rattle.lower_forms.specs.Programs.{home_if, next_home, homes_from, func_lowered, funcs_lowered, lowered}
-use Rattle.lower_turns.proofs.Relation.{HasKind, InRegister, no_value, one_value, InBlock, no_block, held_in, AgreesIn, outermost, Stand, Calls, AtE, AtS, at_leaves, at_row, Callers, one_wants, one_drops, Together, both_went, both_unfit, same, at_begins, after_args, dropped_args}
+use Rattle.lower_turns.proofs.Relation.{HasKind, InRegister, no_value, one_value, InBlock, no_block, held_in, AgreesIn, outermost, HasValues, Stand, Calls, AtE, AtS, at_leaves, at_row, Callers, one_wants, one_drops, Together, both_went, both_unfit, same, at_begins, after_args, dropped_args}
 use Rattle.lower_turns.proofs.Operands.{fits_access}
 use Rattle.lower_turns.proofs.Steps.{stops_at}
 use Rattle.lower_turns.proofs.Setting.{Stands, Setting, here, now, own, Alike, start}
@@ -146,7 +146,7 @@ new_agrees t m f params all args tm u h s = record {
 
 -- what waits for a call's value, in the source and in the code
 pub data WaitIs (g : Setting) (ob : ℕ → Option ℕ) (tm : ℕ → Held) (place : ℕ) (ty : tree.Ty) : Wait → (u : ℕ) → Nodes → Position → Type 0 where
-  wait_wanted : {k : Use} {u : ℕ} {r : Nodes} {q : Position} → IsScalar ty → start g ≤ u → AtE g.t g.n g.f ob tm g.a k u (access_of_type ty) found r q → WaitIs g ob tm place ty (wanted place k) u r q
+  wait_wanted : {k : Use} {u : ℕ} {r : Nodes} {q : Position} → HasValues ty → start g ≤ u → AtE g.t g.n g.f ob tm g.a k u (access_of_type ty) found r q → WaitIs g ob tm place ty (wanted place k) u r q
   wait_dropped : {io : Jumps} {k : Todo} {left : List ℕ} {u : ℕ} {r : Nodes} {q : Position} → start g ≤ u → AtS g.t g.n g.f g.a io k left r q → WaitIs g ob tm place ty (dropped k) u r q
 
 abbrev pub nodes_for : Wait → (place : ℕ) → Callee → tree.Exprs → (u : ℕ) → Nodes → Nodes

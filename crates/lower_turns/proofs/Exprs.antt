@@ -20,9 +20,9 @@ use Rattle.struct_ir.specs.meaning.Blocks.{Held, value, pointer, set_at, calcula
 use Rattle.lower_forms.specs.Forms as forms
 use Rattle.lower_forms.specs.Forms.{home, sets, Reach, found, direct_if, is_pointer, register_of, member_reach, pointed, pointed_in, reach, reach_in, expr_nodes, value_nodes, object_place, args_nodes, lib_nodes}
 use Rattle.lower_forms.specs.Programs.{globals_lowered, lowered}
-use Rattle.lower_turns.proofs.Relation.{ctx, HasKind, Below, Points, no_join, ConvertFits, to_number, to_pointer, Calls, CallIs, AreScalars, IsPlace, Taken, none_yet, one_more, Stand, AtE, at_wanted, at_dropped}
+use Rattle.lower_turns.proofs.Relation.{ctx, HasKind, Below, Points, no_join, ConvertFits, to_number, from_atomic, to_pointer, HasValues, Calls, CallIs, AreScalars, IsPlace, Taken, none_yet, one_more, Stand, AtE, at_wanted, at_dropped}
 use Rattle.lower_turns.proofs.Registers.{set_here, below_same, taken_le, taken_below, use_below, below_less}
-use Rattle.lower_turns.proofs.Operands.{pointer_access, pointer_scalar, integer_scalar, sized_pointer, operands_fit, operand_scalars, moved_scalars, sum_fits, sum_calculated, numbers_calculated, backward_fits, distance_fits, compare_fits, convert_fits, convert_scalar, argument_scalars, lib_scalars, pointed_is, sum_joins}
+use Rattle.lower_turns.proofs.Operands.{pointer_access, pointer_scalar, integer_scalar, sized_pointer, operands_fit, operand_scalars, moved_scalars, sum_fits, sum_calculated, numbers_calculated, backward_fits, distance_fits, compare_fits, convert_fits, convert_values, scalar_values, argument_scalars, lib_scalars, pointed_is, sum_joins}
 use Rattle.lower_turns.proofs.Steps.{set_then}
 use Rattle.lower_turns.proofs.Setting.{Stands, Setting, here, now, own, Alike, frame, start, agrees_on, GoesE, anyhow, of_kind}
 use Rattle.lower_turns.proofs.Uses.{gets, not_goes, test_goes, member_goes, convert_goes, read_goes}
@@ -53,6 +53,7 @@ library_nodes (dropped k) place which all u r = refl
 -- how a conversion is reached: as its operand is, or by its own pointer
 convert_reach : (fr : forms.Frame) (e : tree.Expr) (ty : tree.Ty) (from : tree.Ty) → ConvertFits from ty → (direct_if (if is_pointer ty then register_of fr e else None) ≡ found) ⊎ (direct_if (if is_pointer ty then register_of fr e else None) ≡ pointed fr e)
 convert_reach fr e _ _ (to_number x y) = inl refl
+convert_reach fr e _ _ (from_atomic x) = inl refl
 convert_reach fr e _ _ (to_pointer x y) = by_case (pointed_is fr e)
   where
     by_case : (pointed fr e ≡ direct_if (register_of fr e)) ⊎ (register_of fr e ≡ None) → (direct_if (register_of fr e) ≡ found) ⊎ (direct_if (register_of fr e) ≡ pointed fr e)
@@ -146,9 +147,13 @@ module _ (g : Setting) (busy : Calls g.t) where
 
   mutual
     pub expr_sim : (e : tree.Expr) → IsTyped (ctx g.t g.n g.f) e → IsScalar (tree.type_of e) → SimE g e
-    expr_sim (tree.at place ty node) h s vs ob b tm w u r q goes = value_sim place ty node h s vs ob b tm w u r q goes
+    expr_sim (tree.at place ty node) h s vs ob b tm w u r q goes = value_sim place ty node h (scalar_values ty s) vs ob b tm w u r q goes
 
-    pub value_sim : (place : ℕ) (ty : tree.Ty) (node : tree.ExprNode) → IsTypedNode (ctx g.t g.n g.f) ty node → IsScalar ty
+    -- the number of an object that is atomic, too
+    values_sim : (e : tree.Expr) → IsTyped (ctx g.t g.n g.f) e → HasValues (tree.type_of e) → SimE g e
+    values_sim (tree.at place ty node) h s vs ob b tm w u r q goes = value_sim place ty node h s vs ob b tm w u r q goes
+
+    pub value_sim : (place : ℕ) (ty : tree.Ty) (node : tree.ExprNode) → IsTypedNode (ctx g.t g.n g.f) ty node → HasValues ty
         → (vs : List Variable) (ob : ℕ → Option ℕ) (b : Blocks) (tm : ℕ → Held) (w : WayOfUse) (u : ℕ) (r : Nodes) (q : Position)
         → GoesE g vs ob b tm w u (access_of_type ty) (pointed_in (frame g) ty node) r q
         → Alike g (run_node (here g) place ty node w (now g vs b)) (then_ (value_nodes (frame g) place ty node u r) q) (own g ob tm b)
@@ -156,7 +161,7 @@ module _ (g : Setting) (busy : Calls g.t) where
         at_once vs ob b tm w u r q (access_of_type ty) found goes place (ir.constant x z) (values.Num (num x z)) refl (subst (λ y. HasKind (access_of_type y) (values.Num (num x z))) (sym h.0) refl) tt
     value_sim place ty tree.null h s vs ob b tm w u r q goes =
         at_once vs ob b tm w u r q (access_of_type ty) found goes place ir.null (values.Pointer Null) refl (subst (λ y. HasKind y (values.Pointer Null)) (sym (pointer_access ty h)) tt) (set_here tm u (pointer Null))
-    value_sim place ty (tree.literal i) h s vs ob b tm w u r q goes = elim (subst IsScalar h.2 s) [ ]
+    value_sim place ty (tree.literal i) h s vs ob b tm w u r q goes = elim (subst HasValues h.2 s) [ ]
     value_sim place ty (tree.global i) h s vs ob b tm w u r q goes =
         global_place vs ob b tm (read_way (here g) place (access_of_type ty) w) u (forms.loads place ty found u r) q (read_goes g vs ob b tm w u r q busy (access_of_type ty) goes place found) place i
     value_sim place ty (tree.local i) h s vs ob b tm w u r q goes =
@@ -177,7 +182,7 @@ module _ (g : Setting) (busy : Calls g.t) where
         (anyhow g vs ob b tm w u accesses.Pointer (reach (frame g) e) r q (of_kind g vs ob b tm w u (access_of_type ty) accesses.Pointer found r q (ap access_of_type h.2.3) goes))
     value_sim place ty (tree.convert e) h s vs ob b tm w u r q goes =
         let fits = convert_fits (tree.type_of e) ty h.1 s in
-        expr_sim e h.0 (convert_scalar (tree.type_of e) ty fits) vs ob b tm (only_way place (converts ty) w) u (forms.converts place ty u r) q (converted_goes vs ob b tm w u r q place e ty fits goes)
+        values_sim e h.0 (convert_values (tree.type_of e) ty fits) vs ob b tm (only_way place (converts ty) w) u (forms.converts place ty u r) q (converted_goes vs ob b tm w u r q place e ty fits goes)
     value_sim place ty (tree.not_ e) h s vs ob b tm w u r q goes =
         expr_sim e h.0 h.1 vs ob b tm (only_way place negates w) u (forms.sets_truth place u 0 1 r) q
         (not_goes g vs ob b tm w u r q (of_kind g vs ob b tm w u (access_of_type ty) (accesses.Number int) found r q (ap access_of_type h.2) goes) place (access_of_type (tree.type_of e)) (pointed (frame g) e))
@@ -196,8 +201,8 @@ module _ (g : Setting) (busy : Calls g.t) where
     value_sim place ty (tree.choose x y z) h s vs ob b tm w u r q goes =
         expr_sim x h.0 h.3 vs ob b tm _ u _ q
         (choice_goes g vs ob b tm w u r q (access_of_type ty) goes (tree.place_of x) y z (access_of_type (tree.type_of x)) (pointed (frame g) x)
-        h.1 (subst IsScalar (sym h.5) s) (ap access_of_type h.5) (expr_sim y h.1 (subst IsScalar (sym h.5) s))
-        h.2 (subst IsScalar (sym h.6) s) (ap access_of_type h.6) (expr_sim z h.2 (subst IsScalar (sym h.6) s)))
+        h.1 (subst IsScalar (sym h.5) (integer_scalar ty h.4)) (ap access_of_type h.5) (expr_sim y h.1 (subst IsScalar (sym h.5) (integer_scalar ty h.4)))
+        h.2 (subst IsScalar (sym h.6) (integer_scalar ty h.4)) (ap access_of_type h.6) (expr_sim z h.2 (subst IsScalar (sym h.6) (integer_scalar ty h.4))))
     value_sim place ty (tree.pointer_add x y) h s vs ob b tm w u r q goes =
         let k = moved_scalars g.t.structs (tree.type_of x) (tree.type_of y) ty h.2 in
         subst (λ c. Alike g (run_node (here g) place ty (tree.pointer_add x y) w (now g vs b)) (then_ (expr_nodes (frame g) x u (expr_nodes (frame g) y (suc u) (forms.sets place u c r))) q) (own g ob tm b))

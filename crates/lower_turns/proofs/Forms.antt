@@ -1,15 +1,17 @@
 -- Declarations, assignments, and expressions that are dropped.
-use Rattle.std.proofs.Common.{◌≡◌, ℕ, ◌<◌, ◌^◌, Bool, true, false, List, length, set, Option, Some, None, refl, sym, ap, subst, ◌∙◌, arith, if◌then◌else◌}
+use Rattle.std.proofs.Common.{◌≡◌, ℕ, ◌<◌, ◌^◌, Bool, true, false, List, [], ◌∷◌, length, set, Option, Some, None, refl, sym, ap, subst, ◌∙◌, arith, if◌then◌else◌}
 use Rattle.std.specs.Prelude.{slice_get}
+use Rattle.ak_words.specs.declared.int_type.IntType.{IntType}
 use Rattle.ak_words.specs.declared.operation.Op.{Op}
+use Rattle.ak_words.specs.IntType.{int}
 use Rattle.block_store.specs.declared.values.Ptr.TheVariants.{To}
 use Rattle.block_store.specs.declared.values.Value.TheVariants as values
 use Rattle.block_store.specs.Blocks.{Blocks}
 use Rattle.block_store.specs.Runs.{Turn}
 use Rattle.c_tree.specs.Typed as tree
-use Rattle.c_tree.specs.TypedForm.{Jumps, IsScalar, IsLvalue, Fits, IsTyped, IsTypedNode, CanUpdate, Converts, IsLocal, IsResult, IsFunc, type_of_result, Signature, signature_of, IsLibCall}
+use Rattle.c_tree.specs.TypedForm.{Jumps, IsScalar, IsLvalue, Fits, IsTyped, IsTypedNode, CanUpdate, Converts, IsLocal, IsResult, IsFunc, type_of_result, Signature, signature_of, IsAtomicCall, IsLibCall}
 use Rattle.c_tree.specs.TypedLayout.{size_in}
-use Rattle.c_meaning.specs.Values.{access_of_type, is_scalar}
+use Rattle.c_meaning.specs.Values.{access_of_type}
 use Rattle.c_meaning.specs.Control as source
 use Rattle.c_meaning.specs.Control.{Variable, Control, dropped}
 use Rattle.c_meaning.specs.Turns.{Now, Way, run, run_place, local_way, place_way, left_way, struct_left_way, update_left_way, update_local_way, update_of, is_block, local_at, declared_in, made_local, with_variable, ended_local, assigns, assigns_object, updates, declares, is_struct}
@@ -42,6 +44,7 @@ struct_of : (ty : tree.Ty) → is_struct ty ≡ true → (s : ℕ) × (ty ≡ tr
 struct_of (tree.structure s) e = (s, refl)
 struct_of tree.void e = absurd cc
 struct_of (tree.integer s) e = absurd cc
+struct_of (tree.atomic s) e = absurd cc
 struct_of tree.mutex e = absurd cc
 struct_of (tree.pointer u) e = absurd cc
 struct_of (tree.array u n) e = absurd cc
@@ -50,36 +53,30 @@ fits_struct : (a : tree.Ty) (s : ℕ) → Fits a (tree.structure s) → a ≡ tr
 fits_struct (tree.structure m) s h = ap tree.structure h
 fits_struct tree.void s h = elim h [ ]
 fits_struct (tree.integer x) s h = elim h [ ]
+fits_struct (tree.atomic x) s h = elim h [ ]
 fits_struct tree.mutex s h = elim h [ ]
 fits_struct (tree.pointer u) s h = elim h [ ]
 fits_struct (tree.array u n) s h = elim h [ ]
 
 fits_number : (a b : tree.Ty) → Fits a b → is_struct b ≡ false → IsScalar a
 fits_number (tree.integer x) (tree.integer y) h e = tt
+fits_number (tree.integer x) (tree.atomic y) h e = tt
 fits_number (tree.pointer x) (tree.pointer y) h e = tt
 fits_number (tree.structure m) (tree.structure n) h e = absurd cc
 fits_number a b h e = elim h [ ]
 
 pub returned_scalar : (a b : tree.Ty) → Fits a b → IsResult b → IsScalar a
 returned_scalar (tree.integer x) (tree.integer y) h r = tt
+returned_scalar (tree.integer x) (tree.atomic y) h r = elim r [ ]
 returned_scalar (tree.pointer x) (tree.pointer y) h r = tt
 returned_scalar (tree.structure m) (tree.structure n) h r = elim r [ ]
 returned_scalar a b h r = elim h [ ]
 
 can_scalar : (structs : List tree.Layout) (op : Op) (a b : tree.Ty) → CanUpdate structs op a b → IsScalar b
 can_scalar structs op (tree.integer x) (tree.integer y) h = tt
+can_scalar structs op (tree.atomic x) (tree.integer y) h = tt
 can_scalar structs op (tree.pointer x) (tree.integer y) h = tt
 can_scalar structs op a b h = elim h [ ]
-
-scalar_is : (ty : tree.Ty) → is_scalar ty ≡ true → IsScalar ty
-scalar_is (tree.integer s) e = tt
-scalar_is (tree.pointer u) e = tt
-scalar_is ty e = absurd cc
-
-not_scalar : (ty : tree.Ty) → is_scalar ty ≡ false → IsScalar ty → ⊥
-not_scalar (tree.integer s) e h = absurd cc
-not_scalar (tree.pointer u) e h = absurd cc
-not_scalar ty e h = elim h [ ]
 
 -- an expression of a struct's type is an lvalue
 struct_lvalue : (g : Setting) (s : ℕ) (node : tree.ExprNode) → IsTypedNode (ctx g.t g.n g.f) (tree.structure s) node → IsLvalue node
@@ -117,6 +114,10 @@ struct_lvalue g s (tree.call m args) h =
     elim (subst IsResult (sym (h.1.2.1 ∙ ap (λ (x : Signature). x.result) (sym f.2))) is.result) [ ]
 struct_lvalue g s (tree.lib which args) h = no_lib which h.1
   where
+    no_atomic : (others : IntType → List tree.Ty) (result : IntType → tree.Ty) (es : tree.Exprs) → IsAtomicCall others result es (tree.structure s) → ((u : IntType) → tree.structure s ≡ result u → ⊥) → IsLvalue (tree.lib which args)
+    no_atomic others result tree.no_exprs k n = elim k [ ]
+    no_atomic others result (tree.more_exprs e es) k n = absurd (n k.0 k.4)
+
     no_lib : (which : tree.Lib) → IsLibCall (ctx g.t g.n g.f) which args (tree.structure s) → IsLvalue (tree.lib which args)
     no_lib (tree.print pieces) k = absurd (let d = k.1 in cc)
     no_lib tree.malloc k = absurd (let d = k.1 in cc)
@@ -127,6 +128,11 @@ struct_lvalue g s (tree.lib which args) h = no_lib which h.1
     no_lib (tree.start m) k = absurd (let d = k.2 in cc)
     no_lib tree.join k = absurd (let d = k.1 in cc)
     no_lib tree.mutex_init k = absurd (let d = k.1 in cc)
+    no_lib tree.atomic_add k = no_atomic (λ s. tree.integer s ∷ []) (λ s. tree.integer s) args k (λ u e. cc)
+    no_lib tree.atomic_sub k = no_atomic (λ s. tree.integer s ∷ []) (λ s. tree.integer s) args k (λ u e. cc)
+    no_lib tree.atomic_swap k = no_atomic (λ s. tree.integer s ∷ []) (λ s. tree.integer s) args k (λ u e. cc)
+    no_lib tree.atomic_compare k = no_atomic (λ s. tree.pointer (tree.integer s) ∷ tree.integer s ∷ []) (λ s. tree.integer int) args k (λ u e. cc)
+    no_lib tree.atomic_store k = no_atomic (λ s. tree.integer s ∷ []) (λ s. tree.void) args k (λ u e. cc)
     no_lib tree.mutex_lock k = absurd (let d = k.1 in cc)
     no_lib tree.mutex_unlock k = absurd (let d = k.1 in cc)
     no_lib tree.mutex_destroy k = absurd (let d = k.1 in cc)
@@ -276,7 +282,7 @@ module _ (g : Setting) where
           subst (λ (hm : Option ℕ). Alike g (run (here g) right (update_local_way (here g) (update_of place (tree.at where_ ty (tree.local i)) op) i w) (now g vs b))
           (then_ (update_nodes (frame g) place op (register_if i hm) (tree.at where_ ty (tree.local i)) right (start g) r) q) (own g ob tm b)) (sym none)
           (expr_sim g busy right tr scalar vs ob b tm (update_local_way (here g) (update_of place (tree.at where_ ty (tree.local i)) op) i w) (start g) _ q
-          (update_local_goes g vs ob b tm agrees io w left r q goes place i h.0 (tree.at where_ ty (tree.local i)) right op (pointed (frame g) right) h.1 none (sym h.2) can))
+          (update_local_goes g vs ob b tm agrees io w left r q goes place i h.0 (tree.at where_ ty (tree.local i)) right op (pointed (frame g) right) h.1 none (sym h.2) (subst IsScalar h.2 (register_scalar i h.0 h.1 e)) can))
 
       pub updates_alike : (place : ℕ) (op : Op) (x right : tree.Expr) → IsTyped (ctx g.t g.n g.f) x → IsTyped (ctx g.t g.n g.f) right → IsLvalue (tree.node_of x) → CanUpdate g.t.structs op (tree.type_of x) (tree.type_of right)
           → Alike g (updates (here g) (update_of place x op) (tree.node_of x) x right w (now g vs b)) (then_ (update_nodes (frame g) place op (own_register (frame g) (tree.node_of x)) x right (start g) r) q) (own g ob tm b)

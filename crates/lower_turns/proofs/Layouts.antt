@@ -26,6 +26,7 @@ module _ (t : tree.Typed) (w : IsWellFormed t) where
   type_aligned : (ty : tree.Ty) → IsSized t.structs ty → 1 ≤ align_in t.structs ty
   type_aligned tree.void h = elim h [ ]
   type_aligned (tree.integer s) h = let b = width_bounds s.bits s.known_width in omega (arith, b)
+  type_aligned (tree.atomic s) h = let b = width_bounds s.bits s.known_width in omega (arith, b)
   type_aligned tree.mutex h = omega arith
   type_aligned (tree.pointer u) h = omega arith
   type_aligned (tree.array u n) h = type_aligned u h.0
@@ -63,6 +64,7 @@ module _ (t : tree.Typed) (w : IsWellFormed t) where
   offset_small (tree.structure n) m = struct_offset n m (slice_get t.structs n) refl
   offset_small tree.void m = omega arith
   offset_small (tree.integer s) m = omega arith
+  offset_small (tree.atomic s) m = omega arith
   offset_small tree.mutex m = omega arith
   offset_small (tree.pointer u) m = omega arith
   offset_small (tree.array u n) m = omega arith

@@ -25,7 +25,7 @@ use Rattle.struct_ir.specs.meaning.Blocks.{Held, value, pointer, Fault, Own, kno
 use Rattle.struct_ir.specs.meaning.Threads.{address_of, action_of, action_with, all_of}
 use Rattle.struct_ir.specs.meaning.Threads as served
 use Rattle.lower_forms.specs.Forms.{sets_int, found, at_temp, is_number, with_if, number_temps, text_places}
-use Rattle.lower_turns.proofs.Relation.{HasKind, Below, Stand, AreScalars, Calls, AtE, at_int, AllBegin, Together, both_went, same, at_begins, at_gives, at_zero}
+use Rattle.lower_turns.proofs.Relation.{HasKind, Below, HasValues, Stand, AreScalars, Calls, AtE, at_int, AllBegin, Together, both_went, same, at_begins, at_gives, at_zero}
 use Rattle.lower_turns.proofs.Registers.{use_below}
 use Rattle.lower_turns.proofs.Setting.{Stands, Setting, here, own, agrees_on}
 use Rattle.lower_turns.proofs.Actions.{GivesNone}
@@ -136,5 +136,5 @@ module _ (g : Setting) (busy : Calls g.t) (vs : List Variable) (ob : ℕ → Opt
     -- where there is no value
     pub lands_none : (kw : Wait) (r : Nodes) (q : Position) → WaitIs g ob tm place ty kw u r q → (v : Option Value) → GivesNone v → (a : ℕ → Held) (w : World) → ty ≡ tree.void → Below u tm a → AllBegin g.t w
         → Lands kw v r q a w
-    lands_none _ _ _ (wait_wanted scalar above at) v none a w e below begun = elim (subst IsScalar e scalar) [ ]
+    lands_none _ _ _ (wait_wanted scalar above at) v none a w e below begun = elim (subst HasValues e scalar) [ ]
     lands_none _ _ _ (wait_dropped above at) v none a w e below begun = both_went w begun (same g.call (agrees_on g vs tm a ob u above agrees below) (at_begins at) g.callers)

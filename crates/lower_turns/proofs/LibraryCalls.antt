@@ -1,10 +1,12 @@
 -- Each call of the library does the same on both sides.
+use Rattle.ak_words.specs.declared.int_type.IntType.{IntType}
 use Rattle.ak_words.specs.declared.number.Num.{Num}
-use Rattle.std.proofs.Common.{◌≡◌, ◌≢◌, ℕ, suc, ◌*◌, pos, false, List, [], ◌∷◌, map, Option, Some, None, Ok, Err, inr, refl, sym, ap, subst, ◌∙◌, arith, unsigned_abs, if◌then◌else◌}
+use Rattle.std.proofs.Common.{◌≡◌, ◌≢◌, ℕ, suc, ◌*◌, pos, Bool, true, false, List, [], ◌∷◌, map, Option, Some, None, Ok, Err, inr, refl, sym, ap, subst, ◌∙◌, arith, unsigned_abs, if◌then◌else◌}
 use Rattle.ak_words.specs.IntType.{int, unsigned_long}
 use Rattle.block_store.specs.declared.values.Access.{Access}
 use Rattle.block_store.specs.declared.values.Access.TheVariants as accesses
 use Rattle.block_store.specs.declared.values.Cell.TheVariants.{Unknown, Byte}
+use Rattle.block_store.specs.declared.values.Change.TheVariants.{Add, Swap}
 use Rattle.block_store.specs.declared.values.Ptr.{Ptr}
 use Rattle.block_store.specs.declared.values.Value.{Value}
 use Rattle.block_store.specs.declared.values.Value.TheVariants as values
@@ -12,11 +14,11 @@ use Rattle.block_store.specs.Actions as actions
 use Rattle.block_store.specs.Actions.{World, SharedAction, acted, bytes, text}
 use Rattle.block_store.specs.Blocks.{Blocks}
 use Rattle.c_tree.specs.Typed as tree
-use Rattle.c_tree.specs.TypedForm.{IsLibCall, AreArguments, IsNth, CanStart, signature_of}
+use Rattle.c_tree.specs.TypedForm.{IsAtomicCall, IsLibCall, AreArguments, IsNth, CanStart, signature_of}
 use Rattle.c_tree.specs.TypedPrinting.{parts}
 use Rattle.c_meaning.specs.Values.{access_of_type}
 use Rattle.c_meaning.specs.Control.{Variable, Wait}
-use Rattle.c_meaning.specs.Library.{numbers_of, pointers_of, value_of_call, free_mutex}
+use Rattle.c_meaning.specs.Library.{numbers_of, pointers_of, addend, adds, value_of_call, free_mutex}
 use Rattle.c_meaning.specs.Library as meant
 use Rattle.c_meaning.specs.Turns.{stays, after_call, calls_library, acts}
 use Rattle.struct_ir.specs.Nodes as ir
@@ -24,15 +26,17 @@ use Rattle.struct_ir.specs.Nodes.{Nodes, Step, more_nodes, plain}
 use Rattle.struct_ir.specs.Structured.{Position, then_}
 use Rattle.struct_ir.specs.meaning.Blocks.{Held, value, set_at, wrong_kind, same_type}
 use Rattle.struct_ir.specs.meaning.Threads.{action_of, set_if, action_with, on_ok, if_count}
-use Rattle.lower_forms.specs.Forms.{sets_int, at_temp, number_temps, text_places, lib_nodes}
+use Rattle.lower_forms.specs.Forms as forms
+use Rattle.lower_forms.specs.Forms.{sets_int, at_temp, number_temps, text_places, pointed_number, changed_number, change_nodes, lib_nodes}
 use Rattle.lower_forms.specs.Programs.{lowered}
-use Rattle.lower_turns.proofs.Relation.{ctx, HasKind, Stand, AreScalars, Calls, AllBegin}
-use Rattle.lower_turns.proofs.Registers.{set_here, set_there, below_same, below_set}
+use Rattle.lower_turns.proofs.Relation.{ctx, HasKind, Below, Stand, AreScalars, Calls, AllBegin}
+use Rattle.lower_turns.proofs.Registers.{set_here, set_there, below_same, below_less, below_set}
 use Rattle.lower_turns.proofs.Values.{kind_fits}
 use Rattle.lower_turns.proofs.Operands.{fits_access}
+use Rattle.lower_turns.proofs.Changes.{addend_type, change_fits, compare_fits, addend_alike}
 use Rattle.lower_turns.proofs.Steps.{set_then, step_alike}
 use Rattle.lower_turns.proofs.Setting.{Stands, Setting, here, now, own, Alike}
-use Rattle.lower_turns.proofs.Actions.{GivesKind, GivesNone, IfWent, if_went, copy_so, store_so, allocate_so, reallocate_so, free_so, print_so, lock_so, unlock_so, destroy_so, start_so, join_so}
+use Rattle.lower_turns.proofs.Actions.{GivesKind, GivesNone, IfWent, if_went, copy_so, store_so, allocate_so, reallocate_so, change_so, compare_so, free_so, print_so, lock_so, unlock_so, destroy_so, start_so, join_so}
 use Rattle.lower_turns.proofs.Calls.{WaitIs, nth_mapped}
 use Rattle.lower_turns.proofs.Library.{action_is, one_more_place, one_more_read, at_register, print_is, Lands, lands_value, lands_zero, lands_none}
 
@@ -50,6 +54,23 @@ stand_as tm [] (tree.more_exprs e es) vs u h s = elim h [ ]
 stand_as tm (t ∷ ts) tree.no_exprs vs u h s = elim h [ ]
 stand_as tm (t ∷ ts) (tree.more_exprs e es) [] u h s = elim s [ ]
 stand_as tm (t ∷ ts) (tree.more_exprs e es) (v ∷ vs) u h s = (subst (λ z. HasKind z v) (fits_access (tree.type_of e) t h.0) s.0, s.1, stand_as tm ts es vs (suc u) h.1 s.2)
+
+-- the arguments of a call of an atomic number, of which the first tells the type
+record AtomicStand (tm : ℕ → Held) (others : IntType → List tree.Ty) (result : IntType → tree.Ty) (es : tree.Exprs) (ty : tree.Ty) (args : List Value) (u : ℕ) : Type 0 where
+  pub number : IntType
+  pub stand : StandAs tm (accesses.Pointer ∷ map access_of_type (others number)) args u
+  pub gives : ty ≡ result number
+  pub changed : changed_number es ≡ number
+
+atomic_stand : (tm : ℕ → Held) (others : IntType → List tree.Ty) (result : IntType → tree.Ty) (es : tree.Exprs) (ty : tree.Ty) (args : List Value) (u : ℕ) → IsAtomicCall others result es ty → Stand tm es args u → AtomicStand tm others result es ty args u
+atomic_stand tm others result tree.no_exprs ty args u h a = elim h [ ]
+atomic_stand tm others result (tree.more_exprs e es) ty [] u h a = elim a [ ]
+atomic_stand tm others result (tree.more_exprs e es) ty (v ∷ vs) u h a = record {
+  number = h.0;
+  stand = (subst (λ (z : tree.Ty). HasKind (access_of_type z) v) h.1 a.0, a.1, stand_as tm (others h.0) es vs (suc u) h.3 a.2);
+  gives = h.4;
+  changed = ap pointed_number h.1;
+}
 
 pub store_fits : (how : Access) (p : Ptr) (v : Value) → HasKind how v → action_with (ir.store how) (p ∷ []) (v ∷ []) ≡ Ok (actions.store p v)
 store_fits how p v k = ap (λ b. if b then Ok (actions.store p v) else Err wrong_kind) (kind_fits how v k)
@@ -74,6 +95,12 @@ module _ (g : Setting) (busy : Calls g.t) (vs : List Variable) (ob : ℕ → Opt
       step_alike (lowered g.t) g.thread g.answer g.cs' g.s g.t (λ v w. stays (here g) vs (after_call kw v) w) place st r q (own g ob tm b) act is
       (λ v w d. let h = if_went g.t (GivesKind how) (acted world_now g.thread g.answer act) v w so d in
       subst (λ (o : Option ℕ). Lands g busy vs ob b tm agrees kw v r q (set_if tm o v) w) (sym to) (lands_kind how e v w h.0 h.1))
+
+  -- the same from registers that have changed from the next one on
+  lands_in : (c : ℕ → Held) → Below (suc u) tm c → (how : Access) → how ≡ access_of_type ty → (v : Option Value) (w : World) → GivesKind how v → AllBegin g.t w → Lands g busy vs ob b tm agrees kw v r q (set_if c (Some u) v) w
+  lands_in c below how e None w k all = elim k [ ]
+  lands_in c below how e (Some v) w k all =
+      lands_value g busy vs ob b tm agrees place ty u kw r q waits v (set_at c u (value v)) w (subst (λ z. HasKind z v) e k) (below_set u u tm c (value v) (omega arith) (below_less (suc u) u tm c (omega arith) below)) (set_here c u (value v)) all
 
   pub print_alike : (pieces : List tree.Piece) (es : tree.Exprs) (args : List Value) → ty ≡ tree.integer int → AreScalars es → Stand tm es args u → Ends (tree.print pieces) args (lib_nodes place (tree.print pieces) es u r)
   print_alike pieces es args e s h =
@@ -241,6 +268,87 @@ module _ (g : Setting) (busy : Calls g.t) (vs : List Variable) (ob : ℕ → Opt
       (copy_so g.t world_now g.begun g.thread g.answer p o (unsigned_abs n.value) 1 false)
       (λ v w k all. lands_value g busy vs ob b tm agrees place ty u kw r q waits (values.Pointer p) tm w (subst (λ z. HasKind (access_of_type z) (values.Pointer p)) (sym e) tt) (below_same u tm) h.1 all)
 
+  -- ---- atomic numbers
+
+  -- a number is added, or taken away
+  sum_alike : (away : Bool) (s : IntType) (p : Ptr) (n : Num) → ty ≡ tree.integer s → tm u ≡ value (values.Pointer p) → tm (suc u) ≡ value (values.Num n) → n.ty ≡ s
+      → Alike g (acts (here g) place (adds p (addend away n)) (λ v w. stays (here g) vs (after_call kw v) w) (now g vs b)) (then_ (change_nodes place away s (at_temp u) (suc u) (Some u) r) q) (own g ob tm b)
+  sum_alike away s p n e to by is =
+      let m : Num = addend away n in
+      let is_s : m.ty ≡ s = addend_type away n s is in
+      let st : Step = record { action = ir.change Add s; places = at_temp u ∷ []; to = Some u; temps = suc u ∷ []; slots = [] } in
+      addend_alike g ob b _ place s (at_temp u) (suc u) (Some u) n r q tm by is away
+      (λ c under holds.
+      step_alike (lowered g.t) g.thread g.answer g.cs' g.s g.t (λ v w. stays (here g) vs (after_call kw v) w) place st r q (own g ob c b) (actions.change p m.ty Add m.value)
+      (action_is place (own g ob c b) st (p ∷ []) (values.Num m ∷ [])
+      (one_more_place place (own g ob c b) (at_temp u) [] p [] (at_register place (own g ob c b) u p (under u (omega arith) ∙ to)) refl)
+      (one_more_read place (own g ob c b) (suc u) [] (values.Num m) [] holds refl)
+      ∙ change_fits Add s p m is_s)
+      (λ v w d. let h = if_went g.t (GivesKind (accesses.Number m.ty)) _ v w (change_so g.t world_now g.begun g.thread g.answer p m.ty Add m.value) d in
+      lands_in c under (accesses.Number m.ty) (ap accesses.Number is_s ∙ sym (ap access_of_type e)) v w h.0 h.1))
+
+  swap_alike : (s : IntType) (p : Ptr) (n : Num) → ty ≡ tree.integer s → tm u ≡ value (values.Pointer p) → tm (suc u) ≡ value (values.Num n) → n.ty ≡ s
+      → Alike g (acts (here g) place (actions.change p n.ty Swap n.value) (λ v w. stays (here g) vs (after_call kw v) w) (now g vs b)) (then_ (forms.acts place (ir.change Swap s) (at_temp u ∷ []) (Some u) (suc u ∷ []) r) q) (own g ob tm b)
+  swap_alike s p n e to by is =
+      let st : Step = record { action = ir.change Swap s; places = at_temp u ∷ []; to = Some u; temps = suc u ∷ []; slots = [] } in
+      kind_alike (accesses.Number n.ty) (ap accesses.Number is ∙ sym (ap access_of_type e)) st refl (actions.change p n.ty Swap n.value)
+      (action_is place (own g ob tm b) st (p ∷ []) (values.Num n ∷ [])
+      (one_more_place place (own g ob tm b) (at_temp u) [] p [] (at_register place (own g ob tm b) u p to) refl)
+      (one_more_read place (own g ob tm b) (suc u) [] (values.Num n) [] by refl)
+      ∙ change_fits Swap s p n is)
+      (change_so g.t world_now g.begun g.thread g.answer p n.ty Swap n.value)
+
+  put_alike : (s : IntType) (p : Ptr) (n : Num) → ty ≡ tree.void → tm u ≡ value (values.Pointer p) → tm (suc u) ≡ value (values.Num n) → n.ty ≡ s
+      → Alike g (acts (here g) place (actions.store p (values.Num n)) (λ v w. stays (here g) vs (after_call kw v) w) (now g vs b)) (then_ (forms.acts place (ir.store (accesses.Number s)) (at_temp u ∷ []) None (suc u ∷ []) r) q) (own g ob tm b)
+  put_alike s p n e to by is =
+      let st : Step = record { action = ir.store (accesses.Number s); places = at_temp u ∷ []; to = None; temps = suc u ∷ []; slots = [] } in
+      none_alike tree.atomic_store (values.Pointer p ∷ values.Num n ∷ []) r tm st refl (actions.store p (values.Num n))
+      (action_is place (own g ob tm b) st (p ∷ []) (values.Num n ∷ [])
+      (one_more_place place (own g ob tm b) (at_temp u) [] p [] (at_register place (own g ob tm b) u p to) refl)
+      (one_more_read place (own g ob tm b) (suc u) [] (values.Num n) [] by refl)
+      ∙ store_fits (accesses.Number s) p (values.Num n) is)
+      (store_so g.t world_now g.begun g.thread g.answer p (values.Num n))
+      (λ v w k all. lands_none g busy vs ob b tm agrees place ty u kw r q waits v k tm w e (below_same u tm) all)
+
+  compare_alike : (s : IntType) (p o : Ptr) (n : Num) → ty ≡ tree.integer int → tm u ≡ value (values.Pointer p) → tm (suc u) ≡ value (values.Pointer o) → tm (suc (suc u)) ≡ value (values.Num n) → n.ty ≡ s
+      → Alike g (acts (here g) place (actions.compare p o n.ty n.value) (λ v w. stays (here g) vs (after_call kw v) w) (now g vs b))
+      (then_ (forms.acts place (ir.compare s) (at_temp u ∷ at_temp (suc u) ∷ []) (Some u) (suc (suc u) ∷ []) r) q) (own g ob tm b)
+  compare_alike s p o n e to want by is =
+      let st : Step = record { action = ir.compare s; places = at_temp u ∷ at_temp (suc u) ∷ []; to = Some u; temps = suc (suc u) ∷ []; slots = [] } in
+      kind_alike (accesses.Number int) (sym (ap access_of_type e)) st refl (actions.compare p o n.ty n.value)
+      (action_is place (own g ob tm b) st (p ∷ o ∷ []) (values.Num n ∷ [])
+      (one_more_place place (own g ob tm b) (at_temp u) (at_temp (suc u) ∷ []) p (o ∷ []) (at_register place (own g ob tm b) u p to)
+      (one_more_place place (own g ob tm b) (at_temp (suc u)) [] o [] (at_register place (own g ob tm b) (suc u) o want) refl))
+      (one_more_read place (own g ob tm b) (suc (suc u)) [] (values.Num n) [] by refl)
+      ∙ compare_fits s p o n is)
+      (compare_so g.t world_now g.begun g.thread g.answer p o n.ty n.value)
+
+  -- a pointer, and a number of this type behind it, or behind another pointer
+  one_changed : (s : IntType) (P : List Value → Type 0) → ((p : Ptr) (n : Num) → tm u ≡ value (values.Pointer p) → tm (suc u) ≡ value (values.Num n) → n.ty ≡ s → P (values.Pointer p ∷ values.Num n ∷ []))
+      → (args : List Value) → StandAs tm (accesses.Pointer ∷ accesses.Number s ∷ []) args u → P args
+  one_changed s P f [] h = elim h [ ]
+  one_changed s P f (values.Num n ∷ args) h = elim (h.0) [ ]
+  one_changed s P f (values.Pointer p ∷ []) h = elim (h.2) [ ]
+  one_changed s P f (values.Pointer p ∷ values.Pointer o ∷ args) h = elim (h.2.0) [ ]
+  one_changed s P f (values.Pointer p ∷ values.Num n ∷ x ∷ args) h = elim (h.2.2) [ ]
+  one_changed s P f (values.Pointer p ∷ values.Num n ∷ []) h = f p n h.1 h.2.1 h.2.0
+
+  one_compared : (s : IntType) (P : List Value → Type 0)
+      → ((p o : Ptr) (n : Num) → tm u ≡ value (values.Pointer p) → tm (suc u) ≡ value (values.Pointer o) → tm (suc (suc u)) ≡ value (values.Num n) → n.ty ≡ s → P (values.Pointer p ∷ values.Pointer o ∷ values.Num n ∷ []))
+      → (args : List Value) → StandAs tm (accesses.Pointer ∷ accesses.Pointer ∷ accesses.Number s ∷ []) args u → P args
+  one_compared s P f [] h = elim h [ ]
+  one_compared s P f (values.Num n ∷ args) h = elim (h.0) [ ]
+  one_compared s P f (values.Pointer p ∷ []) h = elim (h.2) [ ]
+  one_compared s P f (values.Pointer p ∷ values.Num n ∷ args) h = elim (h.2.0) [ ]
+  one_compared s P f (values.Pointer p ∷ values.Pointer o ∷ []) h = elim (h.2.2) [ ]
+  one_compared s P f (values.Pointer p ∷ values.Pointer o ∷ values.Pointer x ∷ args) h = elim (h.2.2.0) [ ]
+  one_compared s P f (values.Pointer p ∷ values.Pointer o ∷ values.Num n ∷ x ∷ args) h = elim (h.2.2.2) [ ]
+  one_compared s P f (values.Pointer p ∷ values.Pointer o ∷ values.Num n ∷ []) h = f p o n h.1 h.2.1 h.2.2.1 h.2.2.0
+
+  -- by the call, in the nodes for the type of its first argument
+  atomic_by : (es : tree.Exprs) (s : IntType) (which : tree.Lib) (args : List Value) (ns : IntType → Nodes) → changed_number es ≡ s → Ends which args (ns s) → Ends which args (ns (changed_number es))
+  atomic_by es s which args ns e h = subst (λ (z : IntType). Ends which args (ns z)) (sym e) h
+
   -- ---- by the call
 
   pub library_alike : (which : tree.Lib) (es : tree.Exprs) (args : List Value) → IsLibCall (ctx g.t g.n g.f) which es ty → AreScalars es → Stand tm es args u → Ends which args (lib_nodes place which es u r)
@@ -256,3 +364,24 @@ module _ (g : Setting) (busy : Calls g.t) (vs : List Variable) (ob : ℕ → Opt
   library_alike tree.mutex_lock es args h s a = lock_alike es args h.1 (stand_as tm (tree.pointer tree.mutex ∷ []) es args u h.0 a)
   library_alike tree.mutex_unlock es args h s a = unlock_alike es args h.1 (stand_as tm (tree.pointer tree.mutex ∷ []) es args u h.0 a)
   library_alike tree.mutex_destroy es args h s a = destroy_alike es args h.1 (stand_as tm (tree.pointer tree.mutex ∷ []) es args u h.0 a)
+  library_alike tree.atomic_add es args h s a =
+      let k = atomic_stand tm (λ z. tree.integer z ∷ []) (λ z. tree.integer z) es ty args u h a in
+      atomic_by es k.number tree.atomic_add args (λ z. change_nodes place false z (at_temp u) (suc u) (Some u) r) k.changed
+      (one_changed k.number (λ vs'. Ends tree.atomic_add vs' (change_nodes place false k.number (at_temp u) (suc u) (Some u) r)) (λ p n to by is. sum_alike false k.number p n k.gives to by is) args k.stand)
+  library_alike tree.atomic_sub es args h s a =
+      let k = atomic_stand tm (λ z. tree.integer z ∷ []) (λ z. tree.integer z) es ty args u h a in
+      atomic_by es k.number tree.atomic_sub args (λ z. change_nodes place true z (at_temp u) (suc u) (Some u) r) k.changed
+      (one_changed k.number (λ vs'. Ends tree.atomic_sub vs' (change_nodes place true k.number (at_temp u) (suc u) (Some u) r)) (λ p n to by is. sum_alike true k.number p n k.gives to by is) args k.stand)
+  library_alike tree.atomic_swap es args h s a =
+      let k = atomic_stand tm (λ z. tree.integer z ∷ []) (λ z. tree.integer z) es ty args u h a in
+      atomic_by es k.number tree.atomic_swap args (λ z. forms.acts place (ir.change Swap z) (at_temp u ∷ []) (Some u) (suc u ∷ []) r) k.changed
+      (one_changed k.number (λ vs'. Ends tree.atomic_swap vs' (forms.acts place (ir.change Swap k.number) (at_temp u ∷ []) (Some u) (suc u ∷ []) r)) (λ p n to by is. swap_alike k.number p n k.gives to by is) args k.stand)
+  library_alike tree.atomic_compare es args h s a =
+      let k = atomic_stand tm (λ z. tree.pointer (tree.integer z) ∷ tree.integer z ∷ []) (λ z. tree.integer int) es ty args u h a in
+      atomic_by es k.number tree.atomic_compare args (λ z. forms.acts place (ir.compare z) (at_temp u ∷ at_temp (suc u) ∷ []) (Some u) (suc (suc u) ∷ []) r) k.changed
+      (one_compared k.number (λ vs'. Ends tree.atomic_compare vs' (forms.acts place (ir.compare k.number) (at_temp u ∷ at_temp (suc u) ∷ []) (Some u) (suc (suc u) ∷ []) r))
+      (λ p o n to want by is. compare_alike k.number p o n k.gives to want by is) args k.stand)
+  library_alike tree.atomic_store es args h s a =
+      let k = atomic_stand tm (λ z. tree.integer z ∷ []) (λ z. tree.void) es ty args u h a in
+      atomic_by es k.number tree.atomic_store args (λ z. forms.acts place (ir.store (accesses.Number z)) (at_temp u ∷ []) None (suc u ∷ []) r) k.changed
+      (one_changed k.number (λ vs'. Ends tree.atomic_store vs' (forms.acts place (ir.store (accesses.Number k.number)) (at_temp u ∷ []) None (suc u ∷ []) r)) (λ p n to by is. put_alike k.number p n k.gives to by is) args k.stand)

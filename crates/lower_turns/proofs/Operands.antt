@@ -10,11 +10,11 @@ use Rattle.block_store.specs.declared.values.Access.TheVariants as accesses
 use Rattle.block_store.specs.declared.values.Value.{Value}
 use Rattle.block_store.specs.declared.values.Value.TheVariants as values
 use Rattle.c_tree.specs.Typed as tree
-use Rattle.c_tree.specs.TypedForm.{IsInteger, IsPointer, IsScalar, Fits, PointsToSized, MovesPointer, AreOperands, type_of_result, Converts, HasBits, ArePrinted, InScope, AreArguments, IsLibCall}
-use Rattle.c_meaning.specs.Values.{operand_types, Binary, on_numbers, forward, backward, distance, on_pointers, access_of_type}
+use Rattle.c_tree.specs.TypedForm.{IsInteger, IsPointer, IsScalar, CanUpdate, Fits, PointsToSized, MovesPointer, AreOperands, type_of_result, Converts, HasBits, ArePrinted, InScope, AreArguments, IsAtomicCall, IsLibCall}
+use Rattle.c_meaning.specs.Values.{is_atomic, operand_types, Binary, on_numbers, forward, backward, distance, on_pointers, access_of_type}
 use Rattle.struct_ir.specs.Nodes as ir
 use Rattle.lower_forms.specs.Forms.{Frame, Reach, indexed, is_pointer, register_of, pointer_register, direct_if, indexed_if, pointed, sum_calc, number_type}
-use Rattle.lower_turns.proofs.Relation.{HasKind, Points, BinaryFits, numbers, forwards, forwards_from, backwards, distances, comparisons, calc_of, Joins, no_join, one_join, Joined, not_joined, joined, ConvertFits, to_number, to_pointer, AreScalars}
+use Rattle.lower_turns.proofs.Relation.{HasKind, Points, BinaryFits, numbers, forwards, forwards_from, backwards, distances, comparisons, calc_of, Joins, no_join, one_join, Joined, not_joined, joined, ConvertFits, to_number, from_atomic, to_pointer, HasValues, AreScalars}
 use Rattle.lower_turns.proofs.Values.{unmoved, type_itself}
 use Rattle.struct_ir.specs.meaning.Blocks.{Held, pointer, same_type, is_shift, takes}
 
@@ -23,6 +23,7 @@ use Rattle.struct_ir.specs.meaning.Blocks.{Held, pointer, same_type, is_shift, t
 pub number_access : (ty : tree.Ty) → IsInteger ty → (s : IntType) × (ty ≡ tree.integer s)
 number_access (tree.integer s) h = (s, refl)
 number_access tree.void h = elim h [ ]
+number_access (tree.atomic s) h = elim h [ ]
 number_access tree.mutex h = elim h [ ]
 number_access (tree.pointer u) h = elim h [ ]
 number_access (tree.array u n) h = elim h [ ]
@@ -31,6 +32,7 @@ number_access (tree.structure n) h = elim h [ ]
 pub pointer_access : (ty : tree.Ty) → IsPointer ty → access_of_type ty ≡ accesses.Pointer
 pointer_access (tree.integer s) h = elim h [ ]
 pointer_access tree.void h = refl
+pointer_access (tree.atomic s) h = elim h [ ]
 pointer_access tree.mutex h = refl
 pointer_access (tree.pointer u) h = refl
 pointer_access (tree.array u n) h = refl
@@ -39,6 +41,7 @@ pointer_access (tree.structure n) h = refl
 pub pointer_scalar : (ty : tree.Ty) → IsPointer ty → IsScalar ty
 pointer_scalar (tree.integer s) h = elim h [ ]
 pointer_scalar tree.void h = elim h [ ]
+pointer_scalar (tree.atomic s) h = elim h [ ]
 pointer_scalar tree.mutex h = elim h [ ]
 pointer_scalar (tree.pointer u) h = tt
 pointer_scalar (tree.array u n) h = elim h [ ]
@@ -47,6 +50,7 @@ pointer_scalar (tree.structure n) h = elim h [ ]
 pub integer_scalar : (ty : tree.Ty) → IsInteger ty → IsScalar ty
 integer_scalar (tree.integer s) h = tt
 integer_scalar tree.void h = elim h [ ]
+integer_scalar (tree.atomic s) h = elim h [ ]
 integer_scalar tree.mutex h = elim h [ ]
 integer_scalar (tree.pointer u) h = elim h [ ]
 integer_scalar (tree.array u n) h = elim h [ ]
@@ -55,6 +59,7 @@ integer_scalar (tree.structure n) h = elim h [ ]
 pub sized_pointer : (structs : List tree.Layout) (ty : tree.Ty) → PointsToSized structs ty → IsPointer ty
 sized_pointer structs (tree.integer s) h = elim h [ ]
 sized_pointer structs tree.void h = elim h [ ]
+sized_pointer structs (tree.atomic s) h = elim h [ ]
 sized_pointer structs tree.mutex h = elim h [ ]
 sized_pointer structs (tree.pointer u) h = tt
 sized_pointer structs (tree.array u n) h = elim h [ ]
@@ -157,6 +162,7 @@ sum_calculated structs size a b ty h t u = elim h [ ]
 pub numbers_calculated : (op : Op) (a : tree.Ty) (t u : ℕ) → calc_of (on_numbers op) (access_of_type a) t u ≡ ir.apply op (number_type a) t u
 numbers_calculated op (tree.integer s) t u = refl
 numbers_calculated op tree.void t u = refl
+numbers_calculated op (tree.atomic s) t u = refl
 numbers_calculated op tree.mutex t u = refl
 numbers_calculated op (tree.pointer v) t u = refl
 numbers_calculated op (tree.array v n) t u = refl
@@ -177,28 +183,50 @@ compare_fits op (tree.pointer u) (tree.pointer v) ty h k e = subst (λ z. Binary
 compare_fits op (tree.pointer u) b ty h k e = elim k [ ]
 compare_fits op a b ty h k e = elim h [ ]
 
-pub convert_fits : (a b : tree.Ty) → Converts a b → IsScalar b → ConvertFits a b
+pub convert_fits : (a b : tree.Ty) → Converts a b → HasValues b → ConvertFits a b
 convert_fits (tree.integer x) (tree.integer y) h s = to_number x y
+convert_fits (tree.atomic x) (tree.integer y) h s = subst (λ (z : IntType). ConvertFits (tree.atomic x) (tree.integer z)) h (from_atomic x)
 convert_fits (tree.pointer x) (tree.pointer y) h s = to_pointer x y
 convert_fits a tree.void h s = elim s [ ]
 convert_fits a b h s = elim h [ ]
 
-pub convert_scalar : (a b : tree.Ty) → ConvertFits a b → IsScalar a
-convert_scalar _ _ (to_number x y) = tt
-convert_scalar _ _ (to_pointer x y) = tt
+pub convert_values : (a b : tree.Ty) → ConvertFits a b → HasValues a
+convert_values _ _ (to_number x y) = tt
+convert_values _ _ (from_atomic x) = tt
+convert_values _ _ (to_pointer x y) = tt
+
+pub scalar_values : (ty : tree.Ty) → IsScalar ty → HasValues ty
+scalar_values (tree.integer s) h = tt
+scalar_values (tree.pointer u) h = tt
+scalar_values ty h = elim h [ ]
 
 -- a value that fits where one of another type is wanted is of the same kind
 pub fits_access : (a b : tree.Ty) → Fits a b → access_of_type a ≡ access_of_type b
 fits_access (tree.integer x) (tree.integer y) h = ap accesses.Number h
+fits_access (tree.integer x) (tree.atomic y) h = ap accesses.Number h
 fits_access (tree.pointer x) (tree.pointer y) h = refl
 fits_access (tree.structure m) (tree.structure n) h = refl
 fits_access a b h = elim h [ ]
 
 pub fits_scalar : (a b : tree.Ty) → Fits a b → IsScalar b → IsScalar a
 fits_scalar (tree.integer x) (tree.integer y) h s = tt
+fits_scalar (tree.integer x) (tree.atomic y) h s = tt
 fits_scalar (tree.pointer x) (tree.pointer y) h s = tt
 fits_scalar (tree.structure m) (tree.structure n) h s = elim s [ ]
 fits_scalar a b h s = elim h [ ]
+
+-- an atomic number is updated by one of its type, and what isn't atomic is a number or a pointer
+pub atomic_updated : (structs : List tree.Layout) (op : Op) (a b : tree.Ty) → CanUpdate structs op a b → is_atomic a ≡ true → (s : IntType) × (a ≡ tree.atomic s) × (b ≡ tree.integer s)
+atomic_updated structs op (tree.integer x) (tree.integer y) h e = absurd cc
+atomic_updated structs op (tree.atomic x) (tree.integer y) h e = (x, refl, ap tree.integer (sym h.1))
+atomic_updated structs op (tree.pointer x) (tree.integer y) h e = absurd cc
+atomic_updated structs op a b h e = elim h [ ]
+
+pub plain_updated : (structs : List tree.Layout) (op : Op) (a b : tree.Ty) → CanUpdate structs op a b → is_atomic a ≡ false → IsScalar a
+plain_updated structs op (tree.integer x) (tree.integer y) h e = tt
+plain_updated structs op (tree.atomic x) (tree.integer y) h e = absurd cc
+plain_updated structs op (tree.pointer x) (tree.integer y) h e = tt
+plain_updated structs op a b h e = elim h [ ]
 
 -- ---- arguments
 
@@ -232,6 +260,10 @@ argument_scalars [] (tree.more_exprs e es) s h = elim h [ ]
 argument_scalars (t ∷ ts) tree.no_exprs s h = elim h [ ]
 argument_scalars (t ∷ ts) (tree.more_exprs e es) s h = (fits_scalar (tree.type_of e) t h.0 s.0, argument_scalars ts es s.1 h.1)
 
+atomic_scalars : (others : IntType → List tree.Ty) (result : IntType → tree.Ty) (es : tree.Exprs) (ty : tree.Ty) → ((s : IntType) → AllScalar (others s)) → IsAtomicCall others result es ty → AreScalars es
+atomic_scalars others result tree.no_exprs ty s h = elim h [ ]
+atomic_scalars others result (tree.more_exprs e es) ty s h = (subst IsScalar (sym h.1) tt, argument_scalars (others h.0) es (s h.0) h.3)
+
 pub lib_scalars : (c : InScope) (which : tree.Lib) (es : tree.Exprs) (ty : tree.Ty) → IsLibCall c which es ty → AreScalars es
 lib_scalars c (tree.print pieces) es ty h = printed_scalars pieces es h.0
 lib_scalars c tree.malloc es ty h = argument_scalars (tree.integer unsigned_long ∷ []) es (tt, tt) h.0
@@ -245,6 +277,11 @@ lib_scalars c tree.mutex_init es ty h = argument_scalars (tree.pointer tree.mute
 lib_scalars c tree.mutex_lock es ty h = argument_scalars (tree.pointer tree.mutex ∷ []) es (tt, tt) h.0
 lib_scalars c tree.mutex_unlock es ty h = argument_scalars (tree.pointer tree.mutex ∷ []) es (tt, tt) h.0
 lib_scalars c tree.mutex_destroy es ty h = argument_scalars (tree.pointer tree.mutex ∷ []) es (tt, tt) h.0
+lib_scalars c tree.atomic_add es ty h = atomic_scalars (λ s. tree.integer s ∷ []) (λ s. tree.integer s) es ty (λ s. (tt, tt)) h
+lib_scalars c tree.atomic_sub es ty h = atomic_scalars (λ s. tree.integer s ∷ []) (λ s. tree.integer s) es ty (λ s. (tt, tt)) h
+lib_scalars c tree.atomic_swap es ty h = atomic_scalars (λ s. tree.integer s ∷ []) (λ s. tree.integer s) es ty (λ s. (tt, tt)) h
+lib_scalars c tree.atomic_compare es ty h = atomic_scalars (λ s. tree.pointer (tree.integer s) ∷ tree.integer s ∷ []) (λ s. tree.integer int) es ty (λ s. (tt, (tt, tt))) h
+lib_scalars c tree.atomic_store es ty h = atomic_scalars (λ s. tree.integer s ∷ []) (λ s. tree.void) es ty (λ s. (tt, tt)) h
 
 -- ---- how pointers are reached
 
@@ -261,6 +298,7 @@ join_by : (size : ℕ) (rch : Reach) (o : Option ℕ) → (rch ≡ direct_if o) 
 join_by size rch o e (tree.pointer u) = join_at size rch o e
 join_by size rch o e (tree.integer s) = no_join (forward size) (accesses.Number s) rch
 join_by size rch o e tree.void = no_join (forward size) accesses.Pointer rch
+join_by size rch o e (tree.atomic s) = no_join (forward size) (accesses.Number s) rch
 join_by size rch o e tree.mutex = no_join (forward size) accesses.Pointer rch
 join_by size rch o e (tree.array u n) = no_join (forward size) accesses.Pointer rch
 join_by size rch o e (tree.structure n) = no_join (forward size) accesses.Pointer rch

@@ -96,9 +96,9 @@ module _ (t : tree.Typed) (n : ℕ) (f : tree.Func) (ob : ℕ → Option ℕ) (a
   use_below _ _ _ _ _ _ _ (at_struct_right place ty to via rch h small at) g = at_struct_right place ty to via rch (reaches_below a b via _ to h g) small at
   use_below _ _ _ _ _ _ _ (at_update_left place x right op rch ty sc can at) g = at_update_left place x right op rch ty sc can at
   use_below _ _ _ _ _ _ _ (at_update_right place x right op to via rch h can at) g = at_update_right place x right op to via rch (reaches_below a b via _ to h g) can at
-  use_below c _ _ _ _ _ _ (at_update_read place x right op to by via rch h can kind e at) g =
-      at_update_read place x right op to by via rch (reaches_below a b via _ to h (below_less _ _ a b (omega arith) g)) can kind (g (behind via _) (omega arith) ∙ e) at
-  use_below _ _ _ _ _ _ _ (at_update_local place i l x right op rch e h same can at) g = at_update_local place i l x right op rch e h same can at
+  use_below c _ _ _ _ _ _ (at_update_read place x right op to by via rch h scalar can kind e at) g =
+      at_update_read place x right op to by via rch (reaches_below a b via _ to h (below_less _ _ a b (omega arith) g)) scalar can kind (g (behind via _) (omega arith) ∙ e) at
+  use_below _ _ _ _ _ _ _ (at_update_local place i l x right op rch e h same scalar can at) g = at_update_local place i l x right op rch e h same scalar can at
   use_below _ _ _ _ _ _ _ (at_if place one other lh rch w1 w2 at) g = at_if place one other lh rch w1 w2 at
   use_below _ _ _ _ _ _ _ (at_loop_test place l lh rch is at) g = at_loop_test place l lh rch is at
   use_below _ _ _ _ _ _ _ (at_switch_test place labels body s rch all few well free at) g = at_switch_test place labels body s rch all few well free at

@@ -39,7 +39,7 @@ use Rattle.struct_ir.specs.meaning.Blocks.{Held, Own, value, number, pointer, ta
 use Rattle.struct_ir.specs.meaning.Threads.{further, moved_if}
 use Rattle.lower_forms.specs.Counts.{greatest, greatest_row, count_if}
 use Rattle.lower_forms.specs.Forms as forms
-use Rattle.lower_forms.specs.Forms.{Frame, home, home_or_none, sets, acts, branches, sets_int, sets_truth, Reach, found, direct, indexed, reached, behind, at_temp, member_reach, reach, member_nodes, temps_of, lib_nodes, expr_nodes, place_nodes, args_nodes, ends, with_home, sized_copy, computes, update_at, test_nodes, choose_nodes, stmt_nodes, row_nodes, switch_nodes}
+use Rattle.lower_forms.specs.Forms.{Frame, home, home_or_none, sets, acts, branches, sets_int, sets_truth, Reach, found, direct, indexed, reached, behind, at_temp, member_reach, reach, member_nodes, temps_of, lib_nodes, expr_nodes, place_nodes, args_nodes, ends, with_home, sized_copy, computes, update_by, test_nodes, choose_nodes, stmt_nodes, row_nodes, switch_nodes}
 use Rattle.lower_forms.specs.Programs.{homes_from, registers_of, last_nodes}
 
 -- ---- values and registers
@@ -187,9 +187,10 @@ pub data Joined (tm : ℕ → Held) (t : ℕ) : Binary → Value → Reach → T
   not_joined : (op : Binary) (v : Value) → Joined tm t op v found
   joined : (base size : ℕ) (a : Ptr) → base < t → tm base ≡ pointer a → Joined tm t (forward size) (values.Pointer a) (indexed base size 0)
 
--- a conversion of a number to a number, and of a pointer to a pointer
+-- a conversion of a number to a number, of an atomic number to its own value, and of a pointer to a pointer
 pub data ConvertFits : (from to : tree.Ty) → Type 0 where
   to_number : (a b : IntType) → ConvertFits (tree.integer a) (tree.integer b)
+  from_atomic : (a : IntType) → ConvertFits (tree.atomic a) (tree.integer a)
   to_pointer : (a b : tree.Ty) → ConvertFits (tree.pointer a) (tree.pointer b)
 
 -- ---- a program
@@ -226,6 +227,13 @@ pub data Taken (tm : ℕ → Held) (all : tree.Exprs) (t0 : ℕ) : tree.Exprs �
   none_yet : Taken tm all t0 all [] t0
   one_more : {e : tree.Expr} {rest : tree.Exprs} {before : List Value} {t : ℕ} (v : Value) → HasKind (access_of_type (tree.type_of e)) v → tm t ≡ value v
       → Taken tm all t0 (tree.more_exprs e rest) before t → Taken tm all t0 rest (before ++ v ∷ []) (suc t)
+
+-- a type whose objects have values: a number, also an atomic one, or a pointer
+abbrev pub HasValues : tree.Ty → Type 0
+HasValues (tree.integer s) = Unit {0}
+HasValues (tree.atomic s) = Unit {0}
+HasValues (tree.pointer u) = Unit {0}
+HasValues ty = ⊥
 
 -- each is a number or a pointer
 abbrev pub AreScalars : tree.Exprs → Type 0
@@ -346,7 +354,7 @@ module _ (t : tree.Typed) (n : ℕ) (f : tree.Func) where
         → AtE ob tm a k u how found r q
         → AtE ob tm a (source.choice place one other k) u lh rch (branches place u (expr_nodes (fr a) one u no_nodes) (expr_nodes (fr a) other u no_nodes) r) q
     at_wanted : {a : Around} {k : Use} {u : ℕ} {r : Nodes} {q : Position} (place : ℕ) (callee : Callee) (all : tree.Exprs) (e : tree.Expr) (rest : tree.Exprs) (before : List Value) (v : ℕ) (ty : tree.Ty) (rch : Reach)
-        → AreTyped ctx rest → AreScalars rest → CallIs ctx callee all ty → AreScalars all → IsScalar ty → Taken tm all u (tree.more_exprs e rest) before v → a.first ≤ u
+        → AreTyped ctx rest → AreScalars rest → CallIs ctx callee all ty → AreScalars all → HasValues ty → Taken tm all u (tree.more_exprs e rest) before v → a.first ≤ u
         → AtE ob tm a k u (access_of_type ty) found r q
         → AtE ob tm a (source.argument place callee before rest (wanted place k)) v (access_of_type (tree.type_of e)) rch (args_nodes (fr a) rest (suc v) (after_args place callee all u r)) q
     at_dropped : {a : Around} {io : Jumps} {k : Todo} {left : List ℕ} {u : ℕ} {r : Nodes} {q : Position} (place : ℕ) (callee : Callee) (all : tree.Exprs) (e : tree.Expr) (rest : tree.Exprs) (before : List Value) (v : ℕ) (ty : tree.Ty) (rch : Reach)
@@ -379,20 +387,20 @@ module _ (t : tree.Typed) (n : ℕ) (f : tree.Func) where
         → IsTyped ctx right → IsScalar (tree.type_of right) → CanUpdate t.structs op (tree.type_of x) (tree.type_of right)
         → AtS a io k left r q
         → AtE ob tm a (source.update_left (update_of place x op) right k) a.first accesses.Pointer rch
-        (expr_nodes (fr a) right (behind rch a.first) (update_at (fr a) place (behind rch a.first) op (reached rch a.first) x right r)) q
+        (expr_nodes (fr a) right (behind rch a.first) (update_by (fr a) place (behind rch a.first) op (reached rch a.first) x right r)) q
     at_update_right : {a : Around} {io : Jumps} {k : Todo} {left : List ℕ} {r : Nodes} {q : Position} (place : ℕ) (x right : tree.Expr) (op : Op) (to : Ptr) (via rch : Reach) → Reaches tm via a.first to
         → CanUpdate t.structs op (tree.type_of x) (tree.type_of right)
         → AtS a io k left r q
         → AtE ob tm a (source.update_right (update_of place x op) (values.Pointer to) k) (behind via a.first) (access_of_type (tree.type_of right)) rch
-        (update_at (fr a) place (behind via a.first) op (reached via a.first) x right r) q
+        (update_by (fr a) place (behind via a.first) op (reached via a.first) x right r) q
     at_update_read : {a : Around} {io : Jumps} {k : Todo} {left : List ℕ} {r : Nodes} {q : Position} (place : ℕ) (x right : tree.Expr) (op : Op) (to : Ptr) (by : Value) (via rch : Reach) → Reaches tm via a.first to
-        → CanUpdate t.structs op (tree.type_of x) (tree.type_of right) → HasKind (access_of_type (tree.type_of right)) by → tm (behind via a.first) ≡ value by
+        → IsScalar (tree.type_of x) → CanUpdate t.structs op (tree.type_of x) (tree.type_of right) → HasKind (access_of_type (tree.type_of right)) by → tm (behind via a.first) ≡ value by
         → AtS a io k left r q
         → AtE ob tm a (source.update_read (update_of place x op) (values.Pointer to) by k) (suc (behind via a.first)) (access_of_type (tree.type_of x)) rch
         (computes t.structs place op (tree.type_of x) (tree.type_of right) (suc (behind via a.first)) (behind via a.first) (behind via a.first)
         (acts (tree.place_of x) (ir.store (access_of_type (tree.type_of x))) (reached via a.first ∷ []) None (behind via a.first ∷ []) r)) q
     at_update_local : {a : Around} {io : Jumps} {k : Todo} {left : List ℕ} {r : Nodes} {q : Position} (place i : ℕ) (l : tree.Local) (x right : tree.Expr) (op : Op) (rch : Reach)
-        → slice_get f.locals i ≡ Some l → home (fr a) i ≡ None → tree.type_of x ≡ l.ty → CanUpdate t.structs op (tree.type_of x) (tree.type_of right)
+        → slice_get f.locals i ≡ Some l → home (fr a) i ≡ None → tree.type_of x ≡ l.ty → IsScalar (tree.type_of x) → CanUpdate t.structs op (tree.type_of x) (tree.type_of right)
         → AtS a io k left r q
         → AtE ob tm a (source.update_local (update_of place x op) i k) a.first (access_of_type (tree.type_of right)) rch
         (sets (tree.place_of x) (suc a.first) (ir.copy i) (computes t.structs place op (tree.type_of x) (tree.type_of right) (suc a.first) a.first i r)) q

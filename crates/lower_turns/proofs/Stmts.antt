@@ -20,8 +20,8 @@ use Rattle.lower_forms.specs.Forms as forms
 use Rattle.lower_forms.specs.Forms.{pointed, pointed_in, reach_in, branches, expr_nodes, value_nodes, object_place, dropped_nodes, dropped_value, dropped_object, return_nodes, ends, objects_in, objects_by, stmt_nodes, form_nodes, row_nodes}
 use Rattle.lower_forms.specs.Programs.{homes_from, lowered}
 use Rattle.c_meaning.specs.Switches.{starts_at}
-use Rattle.lower_turns.proofs.Relation.{ctx, inside, Calls, Free, in_step, IsPast, LoopIs, IsPlace, none_yet, homes_of}
-use Rattle.lower_turns.proofs.Operands.{pointer_scalar, integer_scalar, sized_pointer, moved_pointer, operand_scalars, fits_access, argument_scalars, lib_scalars}
+use Rattle.lower_turns.proofs.Relation.{HasValues, ctx, inside, Calls, Free, in_step, IsPast, LoopIs, IsPlace, none_yet, homes_of}
+use Rattle.lower_turns.proofs.Operands.{pointer_scalar, integer_scalar, sized_pointer, moved_pointer, operand_scalars, fits_access, scalar_values, argument_scalars, lib_scalars}
 use Rattle.lower_turns.proofs.Steps.{goes_next}
 use Rattle.lower_turns.proofs.Setting.{Stands, looped_in, Setting, here, now, own, Alike, frame, start, GoesS, of_kind, objects_over}
 use Rattle.lower_turns.proofs.Calls.{all_at, nth_mapped, wait_dropped}
@@ -36,13 +36,15 @@ use Rattle.lower_turns.proofs.Forms.{returned_scalar, declares_none, declares_so
 
 -- ---- dropped values
 
-scalar_test : (ty : tree.Ty) → is_scalar ty ≡ true → IsScalar ty
+scalar_test : (ty : tree.Ty) → is_scalar ty ≡ true → HasValues ty
 scalar_test (tree.integer s) e = tt
+scalar_test (tree.atomic s) e = tt
 scalar_test (tree.pointer u) e = tt
 scalar_test ty e = absurd cc
 
 no_scalar : (ty : tree.Ty) → is_scalar ty ≡ false → IsScalar ty → ⊥
 no_scalar (tree.integer s) e h = absurd cc
+no_scalar (tree.atomic s) e h = elim h [ ]
 no_scalar (tree.pointer u) e h = absurd cc
 no_scalar ty e h = elim h [ ]
 
@@ -52,16 +54,21 @@ result_scalar op (tree.pointer u) ty h e = subst IsScalar (sym e) tt
 result_scalar op a ty h e = elim h [ ]
 
 module _ (g : Setting) (busy : Calls g.t) (io : Jumps) (w : Way) (left : List ℕ) (r : Nodes) (q : Position) (goes : GoesS g io w left r q) (vs : List Variable) (b : Blocks) (tm : ℕ → Held) (ob : ℕ → Option ℕ) (agrees : Stands g vs tm ob) where
-  -- a value that is dropped
+  -- a value that is dropped, also one that is read
+  read_alike : (place : ℕ) (ty : tree.Ty) (node : tree.ExprNode) → IsTypedNode (ctx g.t g.n g.f) ty node → HasValues ty
+      → Alike g (run_node (here g) place ty node (nowhere_way w) (now g vs b)) (then_ (value_nodes (frame g) place ty node (start g) r) q) (own g ob tm b)
+  read_alike place ty node h s =
+      value_sim g busy place ty node h s vs ob b tm (nowhere_way w) (start g) r q (nowhere_goes g vs ob b tm agrees io w left r q goes (access_of_type ty) (pointed_in (frame g) ty node))
+
   value_alike : (place : ℕ) (ty : tree.Ty) (node : tree.ExprNode) → IsTypedNode (ctx g.t g.n g.f) ty node → IsScalar ty
       → Alike g (run_node (here g) place ty node (nowhere_way w) (now g vs b)) (then_ (value_nodes (frame g) place ty node (start g) r) q) (own g ob tm b)
   value_alike place ty node h s =
-      value_sim g busy place ty node h s vs ob b tm (nowhere_way w) (start g) r q (nowhere_goes g vs ob b tm agrees io w left r q goes (access_of_type ty) (pointed_in (frame g) ty node))
+      read_alike place ty node h (scalar_values ty s)
 
   object_at : (place : ℕ) (ty : tree.Ty) (node : tree.ExprNode) → IsTypedNode (ctx g.t g.n g.f) ty node → (m : Bool) → is_scalar ty ≡ m → (m ≡ false → IsPlace (frame g) node)
       → Alike g (if m then run_node (here g) place ty node (nowhere_way w) (now g vs b) else run_place_node (here g) place node (nowhere_way w) (now g vs b))
       (then_ (if m then value_nodes (frame g) place ty node (start g) r else object_place (frame g) place node (start g) r) q) (own g ob tm b)
-  object_at place ty node h true e p = value_alike place ty node h (scalar_test ty e)
+  object_at place ty node h true e p = read_alike place ty node h (scalar_test ty e)
   object_at place ty node h false e p =
       object_sim g busy place ty node h (p refl) vs ob b tm (nowhere_way w) (start g) r q (nowhere_goes g vs ob b tm agrees io w left r q goes _ (reach_in (frame g) node))
 
@@ -90,6 +97,10 @@ module _ (g : Setting) (busy : Calls g.t) (io : Jumps) (w : Way) (left : List �
     dropped_form place tree.void (tree.convert e) h = dropped_sim e h.0
     dropped_form place (tree.integer s) (tree.convert e) h = value_alike place (tree.integer s) (tree.convert e) h tt
     dropped_form place (tree.pointer u) (tree.convert e) h = value_alike place (tree.pointer u) (tree.convert e) h tt
+    dropped_form place (tree.atomic s) (tree.convert e) h = elim (no_atomic (tree.type_of e) h.1) [ ]
+      where
+        no_atomic : (ty : tree.Ty) → Converts ty (tree.atomic s) → ⊥
+        no_atomic ty k = elim k [ ]
     dropped_form place tree.mutex (tree.convert e) h = elim (no_mutex (tree.type_of e) h.1) [ ]
       where
         no_mutex : (ty : tree.Ty) → Converts ty tree.mutex → ⊥

@@ -141,10 +141,10 @@ module _ (g : Setting) where
         updated_goes (at_around g a low) vs ob b io (way_of (here g) k) left r q (goes_s a low io k left r q at) tm agrees busy place x right op can rch ty sc (expr_sim (at_around g a low) busy right ty sc)
     goes_e _ low agrees _ _ _ _ _ _ (at_update_right {a} {io} {k} {left} {r} {q} place x right op to via rch leads can at) =
         update_right_goes (at_around g a low) vs ob b io (way_of (here g) k) left r q (goes_s a low io k left r q at) tm agrees busy place x right op can to via rch leads
-    goes_e _ low agrees _ _ _ _ _ _ (at_update_read {a} {io} {k} {left} {r} {q} place x right op to by via rch leads can kind e at) =
-        update_read_goes (at_around g a low) vs ob b tm agrees io (way_of (here g) k) left r q (goes_s a low io k left r q at) place x right op to by via rch leads can kind e
-    goes_e _ low agrees _ _ _ _ _ _ (at_update_local {a} {io} {k} {left} {r} {q} place i l x right op rch there none is can at) =
-        update_local_goes (at_around g a low) vs ob b tm agrees io (way_of (here g) k) left r q (goes_s a low io k left r q at) place i l x right op rch there none is can
+    goes_e _ low agrees _ _ _ _ _ _ (at_update_read {a} {io} {k} {left} {r} {q} place x right op to by via rch leads scalar can kind e at) =
+        update_read_goes (at_around g a low) vs ob b tm agrees io (way_of (here g) k) left r q (goes_s a low io k left r q at) place x right op to by via rch leads scalar can kind e
+    goes_e _ low agrees _ _ _ _ _ _ (at_update_local {a} {io} {k} {left} {r} {q} place i l x right op rch there none is scalar can at) =
+        update_local_goes (at_around g a low) vs ob b tm agrees io (way_of (here g) k) left r q (goes_s a low io k left r q at) place i l x right op rch there none is scalar can
     goes_e _ low agrees _ _ _ _ _ _ (at_if {a} {io} {k} {left} {r} {q} place one other lh rch w1 w2 at) =
         if_goes (at_around g a low) io (way_of (here g) k) left r q (goes_s a low io k left r q at) place one other w1 w2 (stmt_sim (at_around g a low) one io w1 (λ z. busy)) (stmt_sim (at_around g a low) other io w2 (λ z. busy)) vs ob b tm agrees lh rch
     goes_e _ low agrees _ _ _ _ _ _ (at_loop_test {a} {io} {k} {left} {r} {q} place l lh rch is at) =

@@ -30,7 +30,7 @@ use Rattle.struct_ir.specs.meaning.Threads as served
 use Rattle.lower_forms.specs.Forms as forms
 use Rattle.lower_forms.specs.Forms.{sets, sets_int, sets_truth, Reach, found, direct, indexed as by_index, reached, behind, member_reach, member_nodes}
 use Rattle.lower_forms.specs.Programs.{lowered}
-use Rattle.lower_turns.proofs.Relation.{HasKind, Below, Reaches, Points, BinaryFits, forwards, forwards_from, calc_of, Joined, not_joined, joined, ConvertFits, to_number, to_pointer, Calls, at_second, at_convert, at_not, at_test, at_member, at_read, at_second_test, Together, both_went, same, at_gives}
+use Rattle.lower_turns.proofs.Relation.{HasKind, Below, Reaches, Points, BinaryFits, forwards, forwards_from, calc_of, Joined, not_joined, joined, ConvertFits, to_number, from_atomic, to_pointer, Calls, at_second, at_convert, at_not, at_test, at_member, at_read, at_second_test, Together, both_went, same, at_gives}
 use Rattle.lower_turns.proofs.Registers.{set_here, set_there, below_less, below_set}
 use Rattle.lower_turns.proofs.Values.{binary_is, binary_kind, int_kind, moved_further, member_moved, unmoved, not_moved, times_one, long_is}
 use Rattle.lower_turns.proofs.Steps.{no_more, then_same, set_then, set_result, branch, step_alike}
@@ -255,6 +255,13 @@ module _ (g : Setting) (vs : List Variable) (ob : ℕ → Option ℕ) (b : Block
     convert_is : (place : ℕ) (s : IntType) (a : ℕ → Held) (n : Num) → a u ≡ number n → calculated program_code place (own g ob a b) (ir.convert s u) ≡ Ok (number (num s n.value))
     convert_is place s a n e = ap (λ (x : Held). on_value (known place x) (on_number (λ (m : Num). Ok (number (num s m.value))))) e
 
+    number_converted : (place : ℕ) (x y : IntType) (rch : Reach) → GoesE g vs ob b tm w u (accesses.Number y) rch r q → (v : Value) (a : ℕ → Held) → HasKind (accesses.Number x) v → Below u tm a → a u ≡ value v → Points a rch u v
+        → Alike g ((only_way place (meant.converts (tree.integer y)) w).go v (now g vs b)) (then_ (sets place u (ir.convert y u) r) q) (own g ob a b)
+    number_converted place x y rch goes (values.Pointer p) a kind below is points = elim kind [ ]
+    number_converted place x y rch goes (values.Num n) a kind below is points =
+        set_then program_code g.thread g.answer g.cs' g.s g.t _ place u (ir.convert y u) r q (own g ob a b) (number (num y n.value)) (convert_is place y a n is)
+        (gets tm a w u (accesses.Number y) rch r q goes below (values.Num (num y n.value)) refl tt)
+
     pub convert_goes : (place : ℕ) (from to : tree.Ty) (rch : Reach) → ConvertFits from to → GoesE g vs ob b tm w u (access_of_type to) rch r q
         → GoesE g vs ob b tm (only_way place (meant.converts to) w) u (access_of_type from) rch (forms.converts place to u r) q
     convert_goes place _ _ rch (to_pointer x y) goes = record {
@@ -267,15 +274,14 @@ module _ (g : Setting) (vs : List Variable) (ob : ℕ → Option ℕ) (b : Block
       at = at_convert place (tree.integer x) (tree.integer y) (to_number x y) goes.at;
       above = goes.above;
       agrees = goes.agrees;
-      go = go;
+      go = number_converted place x y rch goes;
     }
-      where
-        go : (v : Value) (a : ℕ → Held) → HasKind (accesses.Number x) v → Below u tm a → a u ≡ value v → Points a rch u v
-            → Alike g ((only_way place (meant.converts (tree.integer y)) w).go v (now g vs b)) (then_ (sets place u (ir.convert y u) r) q) (own g ob a b)
-        go (values.Pointer p) a kind below is points = elim kind [ ]
-        go (values.Num n) a kind below is points =
-            set_then program_code g.thread g.answer g.cs' g.s g.t _ place u (ir.convert y u) r q (own g ob a b) (number (num y n.value)) (convert_is place y a n is)
-            (gets tm a w u (accesses.Number y) rch r q goes below (values.Num (num y n.value)) refl tt)
+    convert_goes place _ _ rch (from_atomic x) goes = record {
+      at = at_convert place (tree.atomic x) (tree.integer x) (from_atomic x) goes.at;
+      above = goes.above;
+      agrees = goes.agrees;
+      go = number_converted place x x rch goes;
+    }
 
     -- an object is read
     module _ (busy : Calls g.t) where

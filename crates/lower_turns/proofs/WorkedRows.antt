@@ -4,7 +4,7 @@ use Rattle.std.specs.Fmt.{digits}
 use Rattle.ak_words.specs.Op.{exact_result, rule_of}
 use Rattle.ak_words.specs.Wrapped.{residue, wrapped_value}
 use Rattle.struct_ir.specs.Machine.{run_within, run}
-use Rattle.lower_turns.specs.Rows.{RowsStand, RulesStand, OrdersStand}
+use Rattle.lower_turns.specs.Rows.{RowsStand, RulesStand, OrdersStand, AtomicsStand}
 
 pub rows_stand : RowsStand
 unfolding digits residue wrapped_value exact_result rule_of run_within run
@@ -67,4 +67,21 @@ orders_stand = record {
   number_formats_is = refl;
   one_waits_is = refl;
   counted_is = refl;
+}
+
+pub atomics_stand : AtomicsStand
+unfolding digits residue wrapped_value exact_result rule_of run_within run
+atomics_stand = record {
+  compared_is = refl;
+  added_is = refl;
+  taken_is = refl;
+  least_taken_is = refl;
+  swapped_is = refl;
+  stored_is = refl;
+  assigned_is = refl;
+  dropped_is = refl;
+  minus_is = refl;
+  unset_is = refl;
+  both_counted = refl;
+  one_lost = refl;
 }

@@ -1,17 +1,18 @@
 -- Small programs, and the code that they are lowered to: what both show, turn by turn. They are those by which the meaning of the source is
 -- put to the test, and a few more, where the code could have kept what the source has no longer.
-use Rattle.std.specs.Prelude.{◌≡◌, ◌^◌, ℕ, List, [], ◌∷◌, ◌++◌, codes, None, Some, pos}
+use Rattle.std.specs.Prelude.{◌≡◌, ◌^◌, ℕ, List, [], ◌∷◌, ◌++◌, codes, None, Some, pos, negsuc}
 use Rattle.ak_words.specs.declared.operation.Op.TheVariants as ops
 use Rattle.ak_words.specs.IntType.{char, int, unsigned_int, long}
 use Rattle.block_store.specs.Runs.{Pick}
 use Rattle.block_store.specs.Runs as runs
 use Rattle.c_tree.specs.Typed
-use Rattle.c_tree.specs.Typed.{void, integer, mutex, pointer, array, structure, bytes, signed, unsigned, print, copy, mutex_init, mutex_lock}
+use Rattle.c_tree.specs.Typed.{void, integer, atomic, atomic_add, atomic_sub, atomic_swap, atomic_store, mutex, pointer, array, structure, bytes, signed, unsigned, print, copy, mutex_init, mutex_lock}
 use Rattle.c_tree.specs.Typed.{null, literal, global, local, deref, member, address_of, convert, not_, binary, and_also, or_else, choose, pointer_add, pointer_sub, pointer_diff, pointer_compare}
 use Rattle.c_tree.specs.Typed.{block, declare, if_, if_else, for_, while_, break_, continue_, return_, assign, update, evaluate, StmtNode, Expr, zero_bytes, number}
 use Rattle.c_meaning.specs.Meaning.{start, shown}
 use Rattle.c_meaning.specs.Rows.{int_ty, int_star, k, v, of_type, row, one, lib_call, printf_int, op_of, at_star, in_register, in_memory, func, whole, main_only, turns, got, none, p0, malloc_of, free_of, call_of, recursion, shared_block, first_turns, ints, returns, char_star, decayed, at_index, as_void_star, size, mutex_call, joined_twice, prints_and_gives, x0, pair, struct_local, unsigned_char, u, minus, counted, one_waits, g0, thread_ty}
 use Rattle.c_meaning.specs.AllocationRows.{grows, renews, of_the_dead, zeroed}
+use Rattle.c_meaning.specs.AtomicRows.{compared_twice, changed_once, changes, least_int, printed_after, a0, a_star, unset_atomic, counted_by_two}
 use Rattle.struct_ir.specs.meaning.Threads.{program_of}
 use Rattle.lower_forms.specs.Programs.{lowered}
 
@@ -235,3 +236,18 @@ pub record OrdersStand : Type 0 where
   pub number_formats_is : Keeps number_formats (turns 0 2)
   pub one_waits_is : Keeps counted one_waits
   pub counted_is : Keeps counted (got 0 ++ got 0 ++ turns 1 5 ++ turns 2 5 ++ turns 0 6)
+
+-- changes of atomic numbers are one turn each in the code, too
+pub record AtomicsStand : Type 0 where
+  pub compared_is : Keeps compared_twice (turns 0 10)
+  pub added_is : Keeps (changed_once (pos 2147483647) (changes atomic_add (k 1))) (turns 0 5)
+  pub taken_is : Keeps (changed_once (negsuc 4) (changes atomic_sub (k 1))) (turns 0 5)
+  pub least_taken_is : Keeps (changed_once (pos 5) (changes atomic_sub least_int)) (turns 0 5)
+  pub swapped_is : Keeps (changed_once (pos 5) (changes atomic_swap (k 8))) (turns 0 5)
+  pub stored_is : Keeps (printed_after (evaluate (lib_call void atomic_store (a_star ∷ k 7 ∷ [])) ∷ [])) (turns 0 4)
+  pub assigned_is : Keeps (printed_after (assign a0 (k 7) ∷ [])) (turns 0 4)
+  pub dropped_is : Keeps (printed_after (evaluate a0 ∷ [])) (turns 0 4)
+  pub minus_is : Keeps (printed_after (update a0 ops.Sub (k 3) ∷ [])) (turns 0 4)
+  pub unset_is : Keeps unset_atomic (turns 0 1)
+  pub both_counted : Keeps (counted_by_two (atomic int)) (got 0 ++ got 0 ++ turns 1 1 ++ turns 2 2 ++ turns 1 1 ++ turns 0 6)
+  pub one_lost : Keeps (counted_by_two (integer int)) (got 0 ++ got 0 ++ turns 1 1 ++ turns 2 2 ++ turns 1 2 ++ turns 2 1 ++ turns 0 6)

@@ -1,7 +1,7 @@
 //! Laws of what lowering keeps, as contracts of functions that do nothing.
 
 ghost use Rattle.lower_turns.specs.Apart.{RecursionIsToldApart};
-ghost use Rattle.lower_turns.specs.Rows.{RowsStand, RulesStand, OrdersStand};
+ghost use Rattle.lower_turns.specs.Rows.{RowsStand, RulesStand, OrdersStand, AtomicsStand};
 ghost use Rattle.lower_turns.specs.Turns.{LowerKeepsEveryTurn, LowerKeepsEveryRun, ErasedCodeShowsTheSame, CodeWithLooksKeepsEveryTurn, CodeWithLooksKeepsEveryRun, CodeBeginsAlike, CodeKeepsEveryTurn, CodeGoesOn, CallsAreAsDeep, ErasedKeepsEveryTurn};
 
 /// The code of every well formed program shows under every order of turns and answers what the program
@@ -50,4 +50,5 @@ pub fn worked_programs_keep_their_turns()
     ensures rows { RowsStand }
     ensures rules { RulesStand }
     ensures orders { OrdersStand }
+    ensures atomics { AtomicsStand }
 {}

@@ -1,6 +1,7 @@
 -- Checks worked out by hand, of toy programs: the definitions, put to the test.
 use Rattle.std.specs.Prelude.{◌≡◌, ℕ, ◌^◌, List, [], ◌∷◌, codes, map, replicate, slice_get, Option, Some, None, pos}
 use Rattle.ak_words.specs.declared.rule.Rule.TheVariants.{C5}
+use Rattle.ak_words.specs.IntType.{int}
 use Rattle.ak_trace.specs.declared.endings.Verdict.{Verdict}
 use Rattle.ak_trace.specs.declared.endings.Verdict.TheVariants as verdicts
 use Rattle.block_store.specs.declared.values.Access.TheVariants as accesses
@@ -8,9 +9,10 @@ use Rattle.block_store.specs.declared.values.Answer.{Answer}
 use Rattle.block_store.specs.declared.values.Answer.TheVariants as answers
 use Rattle.block_store.specs.declared.values.BlockKind.TheVariants as kinds
 use Rattle.block_store.specs.declared.values.Cell.TheVariants.{Unknown, Byte}
+use Rattle.block_store.specs.declared.values.Change.TheVariants.{Add}
 use Rattle.block_store.specs.declared.values.Ptr.TheVariants.{Null, To}
 use Rattle.block_store.specs.Actions as actions
-use Rattle.block_store.specs.Actions.{World, SharedAction, load, allocate, reallocate, print, bytes, start, join, finish, acted, first_world}
+use Rattle.block_store.specs.Actions.{World, SharedAction, load, allocate, reallocate, change, compare, print, bytes, start, join, finish, acted, first_world}
 use Rattle.block_store.specs.Runs.{Program, Pick, Turn, went, ended, blocked, unfit, broke, first_state}
 use Rattle.block_meaning.specs.Asking.{Wish, nothing, some_bytes, too_many_bytes, a_thread, wish}
 use Rattle.flat_rules.specs.Draws.{draws}
@@ -117,6 +119,9 @@ pub record AnswersStand : Type 0 where
   pub eight_anew : wish_of (reallocate Null 8) ≡ some_bytes 8
   pub too_many_anew : wish_of (reallocate Null (2 ^ 32)) ≡ too_many_bytes
   pub none_of_the_dead : wish_of (reallocate (To 9 0) 8) ≡ nothing
+  -- an atomic number is changed and compared for the asking
+  pub a_change : wish_of (change (To 0 0) int Add (pos 1)) ≡ nothing
+  pub a_compare : wish_of (compare (To 0 0) (To 0 4) int (pos 1)) ≡ nothing
   pub a_new_thread : wish_of starts ≡ a_thread
   pub one_without_place : wish_of (start Null 1 Null) ≡ a_thread
   pub most_bytes : answer_to 1 (some_bytes 16777216) ≡ answers.Got

@@ -8,8 +8,9 @@ use Rattle.block_store.specs.Actions.{World}
 use Rattle.block_store.specs.Blocks.{Blocks}
 use Rattle.c_tree.specs.Typed as tree
 use Rattle.c_meaning.specs.Control as control
-use Rattle.c_meaning.specs.Values.{is_scalar}
-use Rattle.c_meaning.specs.Turns.{TurnContext, Way, WayOfUse, Does, run, run_place, run_dropped, run_dropped_node, nowhere_way, place_way, struct_right_way, struct_left_way, left_way, local_way, update_right_way, update_left_way, update_local_way, updates_variable, variable_at, assigns_object, initialises, drops_object, is_struct, is_block, ended_local, made_local, declared_local}
+use Rattle.c_meaning.specs.Values.{is_scalar, is_atomic, is_minus}
+use Rattle.c_meaning.specs.Library.{changed_by}
+use Rattle.c_meaning.specs.Turns.{TurnContext, Way, WayOfUse, Does, run, run_place, run_dropped, run_dropped_node, nowhere_way, place_way, struct_right_way, struct_left_way, left_way, local_way, pointer_in, update_reads, update_changes, update_right_way, update_left_way, update_local_way, updates_variable, variable_at, assigns_object, initialises, drops_object, is_struct, is_block, ended_local, made_local, declared_local}
 use Rattle.source_tree.specs.declared.tree.SharedProgram.{SharedProgram}
 use Rattle.source_state.specs.declared.control.Progress.{Progress}
 use Rattle.source_state.specs.declared.control.Progress.TheVariants as flows
@@ -25,7 +26,7 @@ use Rattle.source_assignments.proofs.Plain.{assigned}
 use Rattle.source_assignments.proofs.Dropped.{drops_as, as_value, as_object, dropped_value, dropped_object, dropped_void}
 use Rattle.source_assignments.specs.Exits.{ExitsAs, exit}
 use Rattle.source_assignments.specs.inner.Conversions.{voids}
-use Rattle.source_assignments.specs.Stores.{Stores, Copies, ReadsUpdated}
+use Rattle.source_assignments.specs.Stores.{Stores, Copies, ReadsUpdated, ChangesUpdated, Updates}
 use Rattle.source_assignments.specs.inner.Numbers.{Names, local_in}
 
 pub when_true : {A : Type 0} (b : Bool) (x y : A) → b ≡ true → (if b then x else y) ≡ x
@@ -115,8 +116,19 @@ other_object p function locals blocks e right k left i a = record {
 
 -- ---- compound assignments
 
+-- by the type of a: it is changed, or read
+pub changed_updated : (u : control.Update) (at by : Value) (k : control.Todo) (q : Pending) → is_atomic u.ty ≡ true → ChangesUpdated u at by k q → Updates u at by k q
+changed_updated u at by k q e c = record {
+  goes = λ h w x n. when_true (is_atomic u.ty) (update_changes h u w (changed_by (is_minus u.op) (pointer_in at) by) x) (update_reads h u at by w x) e ∙ c.goes h w x n;
+}
+
+pub read_updated : (u : control.Update) (at by : Value) (k : control.Todo) (q : Pending) → is_atomic u.ty ≡ false → ReadsUpdated u at by k q → Updates u at by k q
+read_updated u at by k q e c = record {
+  goes = λ h w x n. when_false (is_atomic u.ty) (update_changes h u w (changed_by (is_minus u.op) (pointer_in at) by) x) (update_reads h u at by w x) e ∙ c.goes h w x n;
+}
+
 pub read_exit : (p : SharedProgram) (function : ℕ) (locals : List control.Variable) (blocks b : Blocks) (e f : tree.Expr) (after : control.Use) (g : Progress) (by : Value) (u : control.Update) (at : Value) (k : control.Todo) (q : Pending)
-    → Flows p locals b f after g → b ≡ blocks → f ≡ e → g ≡ flows.Gives by → after ≡ control.update_right u at k → ReadsUpdated u at by k q
+    → Flows p locals b f after g → b ≡ blocks → f ≡ e → g ≡ flows.Gives by → after ≡ control.update_right u at k → Updates u at by k q
     → ExitsAs (λ h w. run h e (update_right_way h u at w)) p function k locals blocks locals blocks (exits.Ends q)
 read_exit p function locals blocks b e f after g by u at k q flow same_blocks same_expr is_by named reads =
     gives_exit p function locals blocks b e f after g by (λ h w. update_right_way h u at w) k locals blocks (exits.Ends q) flow same_blocks same_expr is_by

@@ -10,20 +10,22 @@ ghost use Rattle.source_state.specs.Views.{todo_of, updating_of};
 ghost use Rattle.source_assignments.specs.inner.Numbers.{plain_number};
 ghost use Rattle.source_assignments.specs.Exits.{ExitsAs};
 ghost use Rattle.source_assignments.specs.inner.Conversions.{voids};
-ghost use Rattle.source_assignments.specs.Stores.{Stores, Copies, ReadsUpdated};
+ghost use Rattle.source_assignments.specs.Stores.{Stores, Copies, ReadsUpdated, ChangesUpdated, Updates};
 
 use crate::behind_assignments;
 use crate::exit::Exit;
 use crate::locals::{is_block, make_local};
 use ak_words::{NoMemory, Op, Rule};
-use block_store::{Ptr, Value};
-use c_meaning::types::{access_of_type, align_in, is_scalar, is_struct, size_in};
+use block_store::{Change, Ptr, Value};
+use c_meaning::types::{
+    access_of_type, align_in, is_atomic, is_minus, is_scalar, is_struct, size_in,
+};
 use c_tree::typed::CType;
 use source_expressions::expressions::{arguments, expr, place, pointer_in};
 use source_state::control::{Pending, Progress, Then, Todo, Updating, Use, Values, Wait};
 use source_state::{KeptStore, Locals, SharedAction, Variable};
 use source_tree::tree::{OneForm, SharedExpr, SharedNode, SharedProgram};
-use source_values::updated;
+use source_values::{addend, updated};
 use std::alloc::Global;
 use std::rc::Rc;
 
@@ -246,8 +248,27 @@ pub fn assign(
     }
 }
 
-/// The value of b in `a op= b` is there, where a is in memory: a is read, which ends the turn.
+/// The value of b in `a op= b` is there, where a is in memory: a is changed where it is atomic, and else read, which ends
+/// the turn.
+#[tactic(auto, using(crate::proofs::Tails::changed_updated, crate::proofs::Tails::read_updated))]
 pub fn update_right(
+    u: &Rc<Updating>,
+    alloc: Global,
+    at: Value,
+    by: Value,
+    k: &Rc<Todo>,
+) -> Result<Pending, NoMemory>
+    ensures { IfOk result (λ q. Updates (updating_of u.now.value) at by (todo_of k.now.value) q) }
+{
+    if is_atomic(&u.ty) {
+        change_object(u, at, by, k)
+    } else {
+        read_object(u, alloc, at, by, k)
+    }
+}
+
+// a is read.
+fn read_object(
     u: &Rc<Updating>,
     alloc: Global,
     at: Value,
@@ -259,6 +280,21 @@ pub fn update_right(
     let after = behind_assignments::update_read(alloc, u, at, by, k)?;
     let action = SharedAction::Load(pointer_in(at), access_of_type(&u.ty));
     Ok(Pending::Act(u.place, action, Then::Gives(u.place, after)))
+}
+
+// a is changed by b.
+fn change_object(u: &Rc<Updating>, at: Value, by: Value, k: &Rc<Todo>) -> Result<Pending, NoMemory>
+    ensures { IfOk result (λ q. ChangesUpdated (updating_of u.now.value) at by (todo_of k.now.value) q) }
+{
+    match by {
+        Value::Num(n) => {
+            let then = Then::Begins(k.clone()?);
+            let added = addend(is_minus(u.op), n);
+            let action = SharedAction::Change(pointer_in(at), Change::Add, added);
+            Ok(Pending::Act(u.place, action, then))
+        }
+        Value::Pointer(_) => Ok(Pending::Unfit),
+    }
 }
 
 /// The place of a in `a op= b` is there.

@@ -11,12 +11,13 @@ ghost use Rattle.source_expressions.specs.Ends.{Calls};
 
 use crate::printing::printed;
 use ak_words::{IntType, NoMemory, Num};
-use block_store::{Cell, Value};
+use block_store::{Cell, Change, Ptr, Value};
 use c_tree::typed::Lib;
 use source_state::SharedAction;
 use source_state::control::{Pending, Then, Values, Wait};
 use source_state::frames::same_wait;
 use source_tree::tree::Callee;
+use source_values::addend;
 use std::alloc::Global;
 use std::rc::Rc;
 
@@ -90,6 +91,80 @@ fn freeing(args: &[Value]) -> Option<SharedAction>
 {
     match args {
         [Value::Pointer(p)] => Some(SharedAction::Free(*p)),
+        _ => None,
+    }
+}
+
+// `atomic_fetch_add`
+fn adding(args: &[Value]) -> Option<SharedAction>
+    ensures { option_map action_of result ≡ library.action_of tree.atomic_add args.now }
+{
+    match args {
+        [at, by] => match (*at, *by) {
+            (Value::Pointer(p), Value::Num(n)) => Some(sum(p, false, n)),
+            (_, _) => None,
+        },
+        _ => None,
+    }
+}
+
+// `atomic_fetch_sub`
+fn taking_away(args: &[Value]) -> Option<SharedAction>
+    ensures { option_map action_of result ≡ library.action_of tree.atomic_sub args.now }
+{
+    match args {
+        [at, by] => match (*at, *by) {
+            (Value::Pointer(p), Value::Num(n)) => Some(sum(p, true, n)),
+            (_, _) => None,
+        },
+        _ => None,
+    }
+}
+
+// A number is added to an atomic one, or taken away.
+fn sum(at: Ptr, away: bool, n: Num) -> SharedAction
+    ensures { action_of result ≡ library.adds at (library.addend away n) }
+{
+    SharedAction::Change(at, Change::Add, addend(away, n))
+}
+
+// `atomic_exchange`
+fn exchanging(args: &[Value]) -> Option<SharedAction>
+    ensures { option_map action_of result ≡ library.action_of tree.atomic_swap args.now }
+{
+    match args {
+        [at, by] => match (*at, *by) {
+            (Value::Pointer(p), Value::Num(n)) => Some(SharedAction::Change(p, Change::Swap, n)),
+            (_, _) => None,
+        },
+        _ => None,
+    }
+}
+
+// `atomic_compare_exchange_strong`, and the weak one, which never fails by itself
+fn comparing(args: &[Value]) -> Option<SharedAction>
+    ensures { option_map action_of result ≡ library.action_of tree.atomic_compare args.now }
+{
+    match args {
+        [at, want, new] => match (*at, *want, *new) {
+            (Value::Pointer(p), Value::Pointer(q), Value::Num(n)) => {
+                Some(SharedAction::Compare(p, q, n))
+            }
+            (_, _, _) => None,
+        },
+        _ => None,
+    }
+}
+
+// `atomic_store`
+fn storing(args: &[Value]) -> Option<SharedAction>
+    ensures { option_map action_of result ≡ library.action_of tree.atomic_store args.now }
+{
+    match args {
+        [at, by] => match (*at, *by) {
+            (Value::Pointer(p), Value::Num(n)) => Some(SharedAction::Store(p, Value::Num(n))),
+            (_, _) => None,
+        },
         _ => None,
     }
 }
@@ -200,6 +275,11 @@ fn action(alloc: Global, lib: &Lib, args: &[Value]) -> Result<Option<SharedActio
         Lib::MutexLock => Ok(locking(args)),
         Lib::MutexUnlock => Ok(unlocking(args)),
         Lib::MutexDestroy => Ok(destroying(args)),
+        Lib::AtomicAdd => Ok(adding(args)),
+        Lib::AtomicSub => Ok(taking_away(args)),
+        Lib::AtomicSwap => Ok(exchanging(args)),
+        Lib::AtomicCompare => Ok(comparing(args)),
+        Lib::AtomicStore => Ok(storing(args)),
     }
 }
 

@@ -62,6 +62,8 @@ impl World {
             SharedAction::Allocate(_, _) => Ok(Done::Unfit),
             SharedAction::Reallocate(at, size) => self.reallocate(thread, at, size, Answer::Plain),
             SharedAction::Free(at) => Ok(self.free(at)),
+            SharedAction::Change(at, how, by) => self.change(at, how, by),
+            SharedAction::Compare(at, want, new) => self.compare(at, want, new),
             SharedAction::Print(parts) => self.print(alloc, &parts),
             SharedAction::Lock(at) => self.lock(at, thread),
             SharedAction::Unlock(at) => self.unlock(at, thread),

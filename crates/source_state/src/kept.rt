@@ -1,12 +1,13 @@
 ghost use Rattle.std.specs.Prelude.{◌≡◌, ◌<◌, length, Ok, Err, IfOk, OnOk, OnErr};
 ghost use Rattle.ak_words.specs.declared.rule.Rule.{Rule};
 ghost use Rattle.block_store.specs.declared.fault.StoreFault.TheVariants.{Broke};
+ghost use Rattle.block_store.specs.Atomics.{changed, old_number, store_after_change, compared, found_equal, store_after_compare};
 ghost use Rattle.block_store.specs.Blocks.{made, ended, freed, renewed, stored, copied, answer_of, store_after};
 ghost use Rattle.block_store.specs.Mutexes.{locked, unlocked, lock_end, store_after_lock};
 ghost use Rattle.source_state.specs.inner.Back.{back_by};
 ghost use Rattle.source_state.specs.inner.Locks.{unkept};
 
-use ak_words::{NoMemory, Rule};
+use ak_words::{NoMemory, Num, Rule};
 use block_store::{BlockKind, Cell, EndedBlock, LockEnd, Ptr, Store, StoreFault, Value};
 use std::alloc::Global;
 use std::marker::Model;
@@ -126,6 +127,24 @@ impl KeptStore {
             return Err(StoreFault::NoMemory);
         }
         self.store.renew(at, size)
+    }
+
+    /// Changes a number, as `Store::change` does; after that nothing leads back.
+    pub(crate) fn change(&mut self, at: Ptr, how: block_store::Change, by: Num) -> Result<Num, Rule>
+        ensures answer { result ≡ old_number (changed self.old.now at by.ty how by.value) }
+        ensures after { self.new.now ≡ store_after_change (changed self.old.now at by.ty how by.value) self.old.now }
+        ensures unchanged { OnErr result (self.new ≡ self.old) }
+    {
+        self.store.change(at, by.ty, how, by)
+    }
+
+    /// Compares two numbers, as `Store::compare` does; after that nothing leads back.
+    pub(crate) fn compare(&mut self, at: Ptr, want: Ptr, new: Num) -> Result<bool, Rule>
+        ensures answer { result ≡ found_equal (compared self.old.now at want new.ty new.value) }
+        ensures after { self.new.now ≡ store_after_compare (compared self.old.now at want new.ty new.value) self.old.now }
+        ensures unchanged { OnErr result (self.new ≡ self.old) }
+    {
+        self.store.compare(at, want, new.ty, new)
     }
 
     /// Writes a value, as `Store::store` does; after that nothing leads back.

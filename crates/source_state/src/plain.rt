@@ -1,22 +1,24 @@
 //! The actions that give one value or none, and change blocks alone.
 
-ghost use Rattle.std.specs.Prelude.{◌≡◌, ◌≤◌, ◌^◌, ◌++◌, [], ℕ, Bool, IfOk, OnOk, map, Ok, pos};
+ghost use Rattle.std.specs.Prelude.{◌≡◌, ◌≤◌, ◌/◌, ◌^◌, ◌++◌, [], ℕ, Bool, IfOk, OnOk, map, Ok, pos};
 ghost use Rattle.ak_words.specs.IntType.{int};
 ghost use Rattle.ak_words.specs.Num.{num};
+ghost use Rattle.ak_words.specs.Op.{truth};
 ghost use Rattle.block_store.specs.declared.values.Value.TheVariants as values;
 ghost use Rattle.block_store.specs.declared.values.Ptr.{Ptr};
+ghost use Rattle.block_store.specs.Atomics.{changed, compared};
 ghost use Rattle.block_store.specs.Blocks.{loaded, stored, copied, freed};
 ghost use Rattle.block_store.specs.Mutexes.{locked, unlocked, destroyed};
 ghost use Rattle.block_store.specs.Cells.{size_of, access_of};
 ghost use Rattle.block_store.specs.Texts.{text_at};
-ghost use Rattle.block_store.specs.Actions.{gives, changes, changes_or_waits, passes, prints, all_bytes, joined_bytes, printed_bytes, telling, reading, writing, reading_text, reading_part, reading_parts};
+ghost use Rattle.block_store.specs.Actions.{gives, changes, changes_number, compares, compare_writes, changes_or_waits, passes, prints, all_bytes, joined_bytes, printed_bytes, telling, reading, writing, reading_text, reading_part, reading_parts};
 ghost use Rattle.block_store.specs.Undo.{appended};
 ghost use Rattle.source_state.specs.Worlds.{world_of, done_of, printed_of, reached_of, Untouched};
 
 use crate::reached::note;
 use crate::world::{Done, Printed, Reached, World};
 use ak_words::{IntType, NoMemory, Num, Rule};
-use block_store::{Access, LockEnd, Ptr, Value};
+use block_store::{Access, Change, LockEnd, Ptr, Value};
 use std::alloc::Global;
 
 impl World {
@@ -74,6 +76,32 @@ impl World {
         match self.store.free(at) {
             Ok(()) => self.went(None),
             Err(rule) => Done::Broke(rule),
+        }
+    }
+
+    // Changes a number, and gives the old one.
+    pub(crate) fn change(&mut self, at: Ptr, how: Change, by: Num) -> Result<Done, NoMemory>
+        ensures done { IfOk result (λ done. done_of done (world_of self.new) ≡ telling (reading (by.ty.bits / 8) at ++ writing (by.ty.bits / 8) at) (changes_number (world_of self.old) (changed (world_of self.old).blocks at by.ty how by.value))) }
+        ensures untouched { IfOk result (λ done. Untouched done self.old self.new) }
+    {
+        match self.store.change(at, how, by) {
+            Ok(old) => self.went_both(Some(Value::Num(old)), at, at, u64::from(by.ty.bits / 8)),
+            Err(rule) => Ok(Done::Broke(rule)),
+        }
+    }
+
+    // Compares two numbers: the first becomes another where they are equal, and else the second becomes the first.
+    pub(crate) fn compare(&mut self, at: Ptr, want: Ptr, new: Num) -> Result<Done, NoMemory>
+        ensures done { IfOk result (λ done. done_of done (world_of self.new) ≡ telling ((reading (new.ty.bits / 8) at ++ reading (new.ty.bits / 8) want) ++ compare_writes at want new.ty (compared (world_of self.old).blocks at want new.ty new.value)) (compares (world_of self.old) (compared (world_of self.old).blocks at want new.ty new.value))) }
+        ensures untouched { IfOk result (λ done. Untouched done self.old self.new) }
+    {
+        let bytes = u64::from(new.ty.bits / 8);
+        match self.store.compare(at, want, new) {
+            Ok(equal) => {
+                let to = if equal { at } else { want };
+                self.went_comparing(Some(truth_value(equal)), at, want, to, bytes)
+            }
+            Err(rule) => Ok(Done::Broke(rule)),
         }
     }
 
@@ -200,6 +228,13 @@ impl World {
             },
         }
     }
+}
+
+// 1 or 0, as an int.
+fn truth_value(holds: bool) -> Value
+    ensures { result ≡ values.Num (num int (truth holds)) }
+{
+    Value::Num(Num::int(i32::from(holds)))
 }
 
 // A count as an int, modulo 2^32.

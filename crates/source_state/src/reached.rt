@@ -63,6 +63,25 @@ impl World {
         note(&mut self.reached, to, bytes, true)?;
         Ok(Done::Went(value))
     }
+
+    // What is done, and reads bytes at two places and then writes as many at one.
+    pub(crate) fn went_comparing(
+        &mut self,
+        value: Option<Value>,
+        at: Ptr,
+        want: Ptr,
+        to: Ptr,
+        bytes: u64,
+    ) -> Result<Done, NoMemory>
+        ensures done { IfOk result (λ done. done_of done (world_of self.new) ≡ went value (with_reached (world_of self.old) ((reading bytes at ++ reading bytes want) ++ writing bytes to))) }
+        ensures untouched { IfOk result (λ done. Untouched done self.old self.new) }
+    {
+        self.reached.clear();
+        note(&mut self.reached, at, bytes, false)?;
+        note(&mut self.reached, want, bytes, false)?;
+        note(&mut self.reached, to, bytes, true)?;
+        Ok(Done::Went(value))
+    }
 }
 
 /// Bytes at a pointer are reached too, where there is one and the pointer isn't null.

@@ -1,6 +1,6 @@
 use crate::KeptStore;
-use ak_words::Rule;
-use block_store::{Access, Cell, Ptr, Value};
+use ak_words::{Num, Rule};
+use block_store::{Access, Cell, Change, Ptr, Value};
 
 /// How far a thread is.
 #[derive(Clone, Copy, PartialEq, Eq)]
@@ -74,6 +74,11 @@ pub enum SharedAction {
     Reallocate(Ptr, u128),
     /// `free`
     Free(Ptr),
+    /// A number of this one's type is changed by it, and the old one given (C11 7.17.7.3, 7.17.7.5).
+    Change(Ptr, Change, Num),
+    /// The number at the first place is compared with that at the second, and becomes this one where they are equal
+    /// (C11 7.17.7.4).
+    Compare(Ptr, Ptr, Num),
     /// `printf`
     Print(Vec<Printed>),
     /// `mtx_lock`

@@ -27,7 +27,7 @@ use Rattle.source_statements.specs.inner.Behind.{Passes, FlowsOn, Continues, Sto
 use Rattle.source_statements.proofs.Names.{name_todo, name_use}
 use Rattle.source_statements.specs.Finishing.{Finishes, GivesTo}
 use Rattle.source_assignments.specs.Exits.{ExitsAs, exit}
-use Rattle.source_assignments.specs.Stores.{Stores, Copies, ReadsUpdated}
+use Rattle.source_assignments.specs.Stores.{Stores, Copies, Updates}
 
 -- ---- what is left to do
 
@@ -299,7 +299,7 @@ give_copies p function place found ty to k rest v locals blocks q is_form same s
     record { goes = λ r x. ap (λ (m : control.Use). (use_of (here_at p function r) m).go v (now_in locals blocks x)) is_form ∙ copies.goes function r (way_of (here_at p function r) rest) (now_in locals blocks x) (name_todo (here_at p function r) rest) }
 
 pub give_reads : (p : SharedProgram) (function : ℕ) (u : control.Update) (at : Value) (k : control.Use) (rest : control.Todo) (v : Value) (locals : List control.Variable) (blocks : Blocks) (q : Pending)
-    → k ≡ control.update_right u at rest → ReadsUpdated u at v rest q
+    → k ≡ control.update_right u at rest → Updates u at v rest q
     → GivesTo p function k v locals blocks locals blocks q
 give_reads p function u at k rest v locals blocks q is_form s = record { goes = λ r x. ap (λ (m : control.Use). (use_of (here_at p function r) m).go v (now_in locals blocks x)) is_form ∙ s.goes (here_at p function r) (way_of (here_at p function r) rest) (now_in locals blocks x) (name_todo (here_at p function r) rest) }
 

@@ -7,6 +7,6 @@ mod operations;
 mod pointers;
 
 pub use operations::{
-    backward, converted, distance, forward, int_of, negated, on_numbers, on_pointers, selected,
-    tested, truth_of, updated,
+    addend, backward, converted, distance, forward, int_of, negated, on_numbers, on_pointers,
+    selected, tested, truth_of, updated,
 };

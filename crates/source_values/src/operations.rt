@@ -6,6 +6,7 @@ ghost use Rattle.ak_words.specs.Num.{num};
 ghost use Rattle.block_store.specs.declared.values.Value.TheVariants as values;
 ghost use Rattle.block_store.specs.Blocks.{Blocks};
 ghost use Rattle.c_tree.specs.TypedViews.{type_view, layout_view};
+ghost use Rattle.c_meaning.specs.Library.{addend};
 ghost use Rattle.c_meaning.specs.Values.{int_of, truth_of, opposite, int_result, long_result, pointer_of, value_of, converted, negates, tests, selects, of_one, on_numbers, forward, backward, distance, on_pointers, of_two, updated, operand_types, computed, converted_result};
 
 use crate::pointers;
@@ -38,6 +39,17 @@ pub fn converted(t: &CType, v: Value) -> Value
     match (t, v) {
         (CType::Int(t), Value::Num(n)) => Value::Num(convert(n, *t)),
         (_, v) => v,
+    }
+}
+
+/// What is added where a number is added, or where it is taken away.
+pub fn addend(away: bool, n: Num) -> Num
+    ensures { result ≡ addend away n }
+{
+    if away {
+        Num::wrapping(n.ty, 0 - n.value)
+    } else {
+        n
     }
 }
 
