@@ -58,7 +58,7 @@ printf("%d\n",s);return 0;}
 C
 cat >adds.c <<'C'
 atomic_long n;
-int main(void){for(int i=0;i<10000000;i++)atomic_fetch_add(&n,1);printf("%ld\n",n);return 0;}
+int main(void){for(int i=0;i<5000000;i++)atomic_fetch_add(&n,1);printf("%ld\n",n);return 0;}
 C
 # (counted in the linear code: the test, the branch, the two sums and the round of a loop; a load, a store and a Look are a step each)
 rate sets sets.c 30000000 9
@@ -67,7 +67,7 @@ rate calls calls.c 10000000 8
 rate mallocs mallocs.c 1000000 12
 pace callocs callocs.c 1000000
 pace grows grows.c 2000000
-pace adds adds.c 10000000
+pace adds adds.c 5000000
 
 barrier() { # objects bytes-of-one rounds
   # A full heap, as a queue. In each round two objects at its front are freed that don't lie side by side, so the malloc of both their rooms
