@@ -61,3 +61,7 @@ for_room = 0
 -- a barrier that came after a set number of turns
 abbrev pub for_every : ℕ
 for_every = 1
+
+-- an evacuation, which stands directly before a barrier
+abbrev pub evacuation : ℕ
+evacuation = 2

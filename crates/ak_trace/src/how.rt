@@ -46,3 +46,6 @@ pub const FOR_ROOM: u8 = 0;
 
 /// A barrier that came after a set number of turns.
 pub const FOR_EVERY: u8 = 1;
+
+/// An evacuation, which stands directly before a barrier.
+pub const EVACUATION: u8 = 2;

@@ -5,9 +5,10 @@ use mathlib.Core.Logic.{inl, inr}
 use Rattle.std.proofs.lemmas.Option.{option_and_then_some}
 use Rattle.ak_trace.specs.declared.entry.Entry.{Entry}
 use Rattle.ak_trace.specs.Kinds as kind
+use Rattle.ak_trace.specs.Hows as how
 use Rattle.flat_rules.specs.Rules.{Rules}
 use Rattle.flat_rules.specs.Machine.{Machine, Served, cleared, sweep}
-use Rattle.flat_rules.specs.Entries.{served_with, served_entry, barrier_entry, evacuation_entry, sweep_entries, how_evacuation}
+use Rattle.flat_rules.specs.Entries.{served_with, served_entry, barrier_entry, evacuation_entry, sweep_entries}
 use Rattle.flat_rules.specs.States.{State, Place, unbegun, home, out, free, asked, must, Mood, place_at, homes_of, none_out, waits_for_room, start}
 use Rattle.flat_rules.specs.Events.{Event}
 use Rattle.flat_rules.specs.Replays.{same_entry, step, run}
@@ -48,7 +49,7 @@ served_tail [] h = tt
 served_tail (e ∷ es) h = (inl h.0, h.1)
 
 -- no barrier is an evacuation
-not_evacuation : (w : ℕ) (room : Bool) → (barrier_entry w room).how ≢ how_evacuation
+not_evacuation : (w : ℕ) (room : Bool) → (barrier_entry w room).how ≢ how.evacuation
 not_evacuation w true h = cc h
 not_evacuation w false h = cc h
 
@@ -76,16 +77,16 @@ module _ {S C : Type 0} (m : Machine S C) (rules : Rules) where
 
   -- where the second entry of an event is a barrier's, the first is an evacuation, and no thread is out
   abbrev Second : State S C → Event S C → Type 0
-  Second s v = (d d2 : Entry) (ds : List Entry) → v.entries ≡ d ∷ d2 ∷ ds → d2.kind ≡ kind.barrier → (d.kind ≡ kind.barrier) × (d.how ≡ how_evacuation) × (d2.how ≢ how_evacuation) × (none_out m rules s ≡ true)
+  Second s v = (d d2 : Entry) (ds : List Entry) → v.entries ≡ d ∷ d2 ∷ ds → d2.kind ≡ kind.barrier → (d.kind ≡ kind.barrier) × (d.how ≡ how.evacuation) × (d2.how ≢ how.evacuation) × (none_out m rules s ≡ true)
 
-  alone_second : (s : State S C) (e d d2 : Entry) (ds : List Entry) → e ∷ [] ≡ d ∷ d2 ∷ ds → d2.kind ≡ kind.barrier → (d.kind ≡ kind.barrier) × (d.how ≡ how_evacuation) × (d2.how ≢ how_evacuation) × (none_out m rules s ≡ true)
+  alone_second : (s : State S C) (e d d2 : Entry) (ds : List Entry) → e ∷ [] ≡ d ∷ d2 ∷ ds → d2.kind ≡ kind.barrier → (d.kind ≡ kind.barrier) × (d.how ≡ how.evacuation) × (d2.how ≢ how.evacuation) × (none_out m rules s ≡ true)
   alone_second s e d d2 ds h k = absurd (let z : [] ≡ d2 ∷ ds = cc h in cc z)
 
   sweep_second : (s : State S C) → none_out m rules s ≡ true → (w : ℕ) (moved room : Bool) (ss : List Served) (d d2 : Entry) (ds : List Entry) → sweep_entries w moved room ss ≡ d ∷ d2 ∷ ds → d2.kind ≡ kind.barrier
-      → (d.kind ≡ kind.barrier) × (d.how ≡ how_evacuation) × (d2.how ≢ how_evacuation) × (none_out m rules s ≡ true)
+      → (d.kind ≡ kind.barrier) × (d.how ≡ how.evacuation) × (d2.how ≢ how.evacuation) × (none_out m rules s ≡ true)
   sweep_second s none w true room ss d d2 ds h k =
       let a : evacuation_entry w ≡ d = cc h in let b : barrier_entry w room ≡ d2 = cc h in
-      (sym (ap (λ (z : Entry). z.kind) a), sym (ap (λ (z : Entry). z.how) a), subst (λ (z : Entry). z.how ≢ how_evacuation) b (not_evacuation w room), none)
+      (sym (ap (λ (z : Entry). z.kind) a), sym (ap (λ (z : Entry). z.how) a), subst (λ (z : Entry). z.how ≢ how.evacuation) b (not_evacuation w room), none)
   sweep_second s none w false room ss d d2 ds h k =
       let e : map (served_entry w) ss ≡ d2 ∷ ds = cc h in let q : AllServed (d2 ∷ ds) = subst AllServed e (all_served w ss) in absurd (let z : kind.barrier ≡ kind.served = sym k ∙ q.0 in cc z)
 
@@ -122,7 +123,7 @@ module _ {S C : Type 0} (m : Machine S C) (rules : Rules) where
     pub tail : IsTail s.due
     pub since : (d : Entry) (ds : List Entry) → s.due ≡ d ∷ ds → s.since ≡ 0
     pub behind : (d : Entry) (ds : List Entry) → s.due ≡ d ∷ ds → d.kind ≡ kind.barrier
-        → (front : List Entry) × (v : Entry) × (log ≡ front ++ v ∷ []) × (v.kind ≡ kind.barrier) × (v.how ≡ how_evacuation) × (d.how ≢ how_evacuation)
+        → (front : List Entry) × (v : Entry) × (log ≡ front ++ v ∷ []) × (v.kind ≡ kind.barrier) × (v.how ≡ how.evacuation) × (d.how ≢ how.evacuation)
         × (z : State S C) × (run m rules front (start m rules shared) ≡ Some z) × (z.due ≡ []) × (none_out m rules z ≡ true)
 
   ran_on : (shared : S) (log : List Entry) (s : State S C) (e : Entry) (s' : State S C) → run m rules log (start m rules shared) ≡ Some s → step m rules s e ≡ Some s' → run m rules (log ++ e ∷ []) (start m rules shared) ≡ Some s'
@@ -261,7 +262,7 @@ module _ {S K C : Type 0} (machine : K → Machine S C) (first : Whole S K C) wh
   none_out_at_barriers before e more s ran is = at_entry m' first.settings (start m' first.settings first.shared) before e more s ran {R = (front : List Entry) × IsBehind front before e × (z : State S C) × Leads machine first front z × (none_out m' first.settings z ≡ true)} (λ z y was st after.
       step_cases m' first.settings z e y {R = (front : List Entry) × IsBehind front before e × (z : State S C) × Leads machine first front z × (none_out m' first.settings z ≡ true)}
       (λ n. let q = (withins m' first.settings first.shared before z was).behind n.d n.ds n.due (sym (same_kind e n.d n.same) ∙ is) in
-      (q.0, inr (q.1, q.2, q.3, q.4, subst (λ (k : Entry). k.how ≢ how_evacuation) (sym (entry_is e n.d n.same)) q.5), q.6, record { runs = q.7; settled = q.8 }, q.9))
+      (q.0, inr (q.1, q.2, q.3, q.4, subst (λ (k : Entry). k.how ≢ how.evacuation) (sym (entry_is e n.d n.same)) q.5), q.6, record { runs = q.7; settled = q.8 }, q.9))
       (λ f. (before, inl refl, z, record { runs = was; settled = f.settled }, barriers_alone S C m' first.settings z e y f.settled is (ap (option_and_then (run m' first.settings [])) st)))
       st)
 
