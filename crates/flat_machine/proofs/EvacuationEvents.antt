@@ -1,5 +1,5 @@
 -- What an evacuation does is what its event does, which may come: what is pinned isn't moved.
-use Rattle.std.proofs.Common.{◌≡◌, Bool, true, false, List, None, refl, sym, ap, ◌∙◌}
+use Rattle.std.proofs.Common.{◌≡◌, Bool, true, false, List, Option, None, refl, sym, ap, ◌∙◌}
 use Rattle.sub_heaps.specs.declared.moves.Move.{Move}
 use Rattle.evacuate.proofs.Legal.{moves_legal}
 use Rattle.struct_ir.specs.Instrs.{LinearCode}
