@@ -1,5 +1,5 @@
 -- How a step went, or why a barrier came, by their numbers. Of a turn it is one of `look` to `no_stack`, of a served allocation
--- `malloc_got` or `malloc_null`, of a barrier `for_room` or `for_every`, of an evacuation `how_evacuation`, and of any other entry 0.
+-- `malloc_got` or `malloc_null`, of a barrier `for_room` or `for_every`, of an evacuation `evacuation`, and of any other entry 0.
 use Rattle.std.specs.Prelude.{ℕ}
 
 -- a pointer was translated
@@ -63,5 +63,5 @@ abbrev pub for_every : ℕ
 for_every = 1
 
 -- an evacuation, which stands directly before a barrier
-abbrev pub how_evacuation : ℕ
-how_evacuation = 2
+abbrev pub evacuation : ℕ
+evacuation = 2
