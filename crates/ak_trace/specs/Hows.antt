@@ -1,5 +1,5 @@
 -- How a step went, or why a barrier came, by their numbers. Of a turn it is one of `look` to `no_stack`, of a served allocation
--- `malloc_got` or `malloc_null`, of a barrier `for_room` or `for_every`, and of any other entry 0.
+-- `malloc_got` or `malloc_null`, of a barrier `for_room` or `for_every`, of an evacuation `evacuation`, and of any other entry 0.
 use Rattle.std.specs.Prelude.{ℕ}
 
 -- a pointer was translated

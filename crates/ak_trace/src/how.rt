@@ -1,6 +1,6 @@
 //! How a step went, or why a barrier came: what the field `how` of an entry says.
 //! A turn has one of the hows from `LOOK` to `NO_STACK`, a served allocation `MALLOC_GOT` or `MALLOC_NULL`,
-//! a barrier `FOR_ROOM` or `FOR_EVERY`, and every other entry 0.
+//! a barrier `FOR_ROOM` or `FOR_EVERY`, an evacuation `EVACUATION`, and every other entry 0.
 
 /// A pointer was translated.
 pub const LOOK: u8 = 0;

@@ -62,4 +62,11 @@ impl Journal {
     {
         self.entries.get(i as usize).copied()
     }
+
+    /// All entries, the oldest first.
+    pub(crate) fn entries(&self) -> &[Entry]
+        ensures { result.now ≡ self.now.entries }
+    {
+        &self.entries
+    }
 }

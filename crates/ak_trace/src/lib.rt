@@ -10,9 +10,11 @@ mod journal;
 pub mod kind;
 mod numbers;
 mod order;
+mod walk;
 
 pub use endings::{End, TrapKind, Verdict};
 pub use entry::Entry;
 pub use journal::Journal;
 pub use numbers::constants_are_the_numbers;
 pub use order::{Answer, order_of_joined, order_of_worked_journals};
+pub use walk::OrderWalk;

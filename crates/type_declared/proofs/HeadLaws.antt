@@ -15,7 +15,6 @@ use Rattle.c_typing.specs.Judgement.{plain_type}
 use Rattle.c_typing.specs.Numbering.{Param}
 use Rattle.c_typing.specs.Programs.{types_or, result_type}
 use Rattle.type_context.specs.ContextViews.{types_view}
-use Rattle.type_context.specs.inner.Outcomes.{joined}
 use Rattle.type_context.proofs.Judging.{fine_then}
 use Rattle.type_declared.specs.Gathering.{each}
 use Rattle.type_declared.specs.ResultTypes.{result_fine}

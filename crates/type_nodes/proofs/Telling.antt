@@ -13,7 +13,7 @@ use Rattle.c_tree.specs.Typed.{Ty, Expr}
 use Rattle.c_tree.specs.TypedViews.{expr_view, boxed_expr_view}
 use Rattle.c_typing.specs.Faults.{Judged, typed, Gives, ◌>>=◌}
 use Rattle.c_typing.specs.Rules.{address}
-use Rattle.c_typing.specs.Scope.{Context, with_tag, tag_number, is_begun, with_begun, Binding, global_name, local_name, function_name, enumerator_name, type_name, library_name, printf, malloc, calloc, realloc, free, memcpy, thrd_create, thrd_join, mtx_init, mtx_lock, mtx_unlock, mtx_destroy, constant}
+use Rattle.c_typing.specs.Scope.{Context, with_tag, tag_number, is_begun, with_begun, Binding, global_name, local_name, function_name, enumerator_name, type_name, library_name, printf, malloc, calloc, realloc, free, memcpy, thrd_create, thrd_join, mtx_init, mtx_lock, mtx_unlock, mtx_destroy, atomic_store, atomic_load, atomic_add, atomic_sub, atomic_swap, atomic_compare, constant, atomic_type}
 use Rattle.c_typing.specs.Judgement.{Judging, in_turn, ruled, valued, Part, begun_by, begun_or, starting_or, called_as, called_by, prefixed_by, prefixed, addressing, with_addressed, meaning_in, opened, closing, braced}
 use Rattle.type_context.specs.declared.context.Context.{Context as CodeContext}
 use Rattle.type_context.specs.ContextViews.{context_view}
@@ -105,7 +105,14 @@ call_printf (Some (library_name mtx_init)) place args print start c h = cc
 call_printf (Some (library_name mtx_lock)) place args print start c h = cc
 call_printf (Some (library_name mtx_unlock)) place args print start c h = cc
 call_printf (Some (library_name mtx_destroy)) place args print start c h = cc
+call_printf (Some (library_name atomic_store)) place args print start c h = cc
+call_printf (Some (library_name atomic_load)) place args print start c h = cc
+call_printf (Some (library_name atomic_add)) place args print start c h = cc
+call_printf (Some (library_name atomic_sub)) place args print start c h = cc
+call_printf (Some (library_name atomic_swap)) place args print start c h = cc
+call_printf (Some (library_name atomic_compare)) place args print start c h = cc
 call_printf (Some (library_name (constant value))) place args print start c h = cc
+call_printf (Some (library_name (atomic_type t))) place args print start c h = cc
 
 pub call_thrd_create : (m : Option Binding) (place : ℕ) (args : Judging (List Expr)) (print start : Judging Expr) (c : Context) → is_thrd_create m ≡ true → start c ≡ called_by m place args print start c
 call_thrd_create None place args print start c h = cc
@@ -126,7 +133,14 @@ call_thrd_create (Some (library_name mtx_init)) place args print start c h = cc
 call_thrd_create (Some (library_name mtx_lock)) place args print start c h = cc
 call_thrd_create (Some (library_name mtx_unlock)) place args print start c h = cc
 call_thrd_create (Some (library_name mtx_destroy)) place args print start c h = cc
+call_thrd_create (Some (library_name atomic_store)) place args print start c h = cc
+call_thrd_create (Some (library_name atomic_load)) place args print start c h = cc
+call_thrd_create (Some (library_name atomic_add)) place args print start c h = cc
+call_thrd_create (Some (library_name atomic_sub)) place args print start c h = cc
+call_thrd_create (Some (library_name atomic_swap)) place args print start c h = cc
+call_thrd_create (Some (library_name atomic_compare)) place args print start c h = cc
 call_thrd_create (Some (library_name (constant value))) place args print start c h = cc
+call_thrd_create (Some (library_name (atomic_type t))) place args print start c h = cc
 
 pub call_other : (m : Option Binding) (place : ℕ) (args : Judging (List Expr)) (print start : Judging Expr) (c : Context) → is_printf m ≡ false → is_thrd_create m ≡ false
     → called_as m place args c ≡ called_by m place args print start c
@@ -148,7 +162,14 @@ call_other (Some (library_name mtx_init)) place args print start c h k = refl
 call_other (Some (library_name mtx_lock)) place args print start c h k = refl
 call_other (Some (library_name mtx_unlock)) place args print start c h k = refl
 call_other (Some (library_name mtx_destroy)) place args print start c h k = refl
+call_other (Some (library_name atomic_store)) place args print start c h k = refl
+call_other (Some (library_name atomic_load)) place args print start c h k = refl
+call_other (Some (library_name atomic_add)) place args print start c h k = refl
+call_other (Some (library_name atomic_sub)) place args print start c h k = refl
+call_other (Some (library_name atomic_swap)) place args print start c h k = refl
+call_other (Some (library_name atomic_compare)) place args print start c h k = refl
 call_other (Some (library_name (constant value))) place args print start c h k = refl
+call_other (Some (library_name (atomic_type t))) place args print start c h k = refl
 
 -- ---- what a thread begins with
 

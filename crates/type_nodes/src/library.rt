@@ -203,13 +203,14 @@ fn atomic_first(args: &[Expr]) -> Option<IntType>
 fn atomic_params(alloc: Global, which: &Lib, t: IntType) -> Result<Vec<CType>, CompileFault>
     ensures { Gives (λ v. map type_view v.items) result (typed (atomic_params (lib_view which.now) t)) }
 {
-    let mut params = Vec::new(alloc);
-    params.push(pointer(alloc, CType::Atomic(t))?)?;
-    if let Lib::AtomicCompare = which {
-        params.push(pointer(alloc, CType::Int(t))?)?;
+    let target = pointer(alloc, CType::Atomic(t))?;
+    match which {
+        Lib::AtomicCompare => {
+            let expected = pointer(alloc, CType::Int(t))?;
+            Ok(vec![in alloc; target, expected, CType::Int(t)]?)
+        }
+        _ => Ok(vec![in alloc; target, CType::Int(t)]?),
     }
-    params.push(CType::Int(t))?;
-    Ok(params)
 }
 
 // The type of its result.

@@ -88,13 +88,21 @@ fn atomic_if(count: usize, t: Option<CType>) -> Option<CType>
     }
 }
 
+// The type that specifiers name, if they name one.
+fn named_type(alloc: Global, parts: &[Part]) -> Result<Option<CType>, AllocError>
+    ensures { IfOk result (λ t. option_map type_view t ≡ atomic_if (atomics_in (map part_view parts.now)) (type_by (wholes_of (map part_view parts.now)) (words_of (map part_view parts.now)))) }
+{
+    let wholes = wholes_of(alloc, parts)?;
+    let words = words_of(alloc, parts)?;
+    let named = type_by(alloc, &wholes, &words)?;
+    Ok(atomic_if(atomics_in(parts), named))
+}
+
 /// The type that specifiers name (C11 6.7.2 p2).
 pub fn specified(alloc: Global, place: u32, parts: &[Part]) -> Result<CType, CompileFault>
     ensures { Gives type_view result (specified place (map part_view parts.now)) }
 {
-    let wholes = wholes_of(alloc, parts)?;
-    let words = words_of(alloc, parts)?;
-    match atomic_if(atomics_in(parts), type_by(alloc, &wholes, &words)?) {
+    match named_type(alloc, parts)? {
         Some(t) => Ok(t),
         None => refused(place, Kind::TypeMismatch),
     }

@@ -1,4 +1,4 @@
-use Rattle.std.proofs.Common.{◌≡◌, ◌∙◌, ap, Bool, if◌then◌else◌, Some, Option}
+use Rattle.std.proofs.Common.{◌≡◌, ◌∙◌, ap, if◌then◌else◌, Some}
 use Rattle.std.proofs.lemmas.Result.{IfOk-weaker}
 use Rattle.block_store.specs.declared.values.Value.{Value}
 use Rattle.source_state.specs.Worlds.{world_of}
@@ -13,6 +13,6 @@ pub returns-after-equal-clause-done : goal.returns-after-equal-clause-done
 returns-after-equal-clause-done c =
     let place : c.if-equal.to ≡ (if c.in-Ok.equal then c.args.at else c.args.want) = elim c.if-equal.branch [ then-equal w ↦ rw w.if-equal.true w.to-is | else-equal w ↦ rw w.if-equal.false w.to-is ] in
     IfOk-weaker c.went_comparing.result _ _
-        (λ done is. is ∙ compare_went (world_of c.args.self.now) c.args.at c.args.want c.if-equal.to c.args.new.ty _ _ _ _ c.in-Ok.equal
-            c.from-bytes.ensures (ap (λ (v : Value). Some v) c.truth_value.ensures) c.compare.ensures.after c.in-Ok.ensures.answer place)
-        c.went_comparing.ensures.done
+    (λ done is. is ∙ compare_went (world_of c.args.self.now) c.args.at c.args.want c.if-equal.to c.args.new.ty _ _ _ _ c.in-Ok.equal
+    c.from-bytes.ensures (ap (λ (v : Value). Some v) c.truth_value.ensures) c.compare.ensures.after c.in-Ok.ensures.answer place)
+    c.went_comparing.ensures.done
