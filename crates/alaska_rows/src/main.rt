@@ -34,7 +34,7 @@ use std::io;
 #[derive(Clone, Copy)]
 struct Row(&'static str, &'static str);
 
-const ROWS: [Row; 87] = [
+const ROWS: [Row; 88] = [
     Row("alaska nothing.c", "all"),
     Row("alaska answer.c", "all"),
     Row("alaska heap.c", "ended live"),
@@ -126,8 +126,12 @@ const ROWS: [Row; 87] = [
     Row("alaska wraps.c", "ended"),
     Row("alaska wraps.c --mode check", "all"),
     Row(
-        "alaska stack.c --workers 4 --every 3 --schedule 5",
+        "alaska stack.c --workers 4 --every 7 --schedule 3",
         "ended threads live",
+    ),
+    Row(
+        "alaska tickets.c --workers 4 --every 7 --schedule 3",
+        "ended threads",
     ),
     Row("alaska unset_by_label.c --mode check", "all"),
     Row("alaska do_by_zero.c --mode check", "all"),

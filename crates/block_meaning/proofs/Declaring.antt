@@ -7,14 +7,15 @@ use Rattle.block_store.specs.declared.values.BlockKind.TheVariants as kinds
 use Rattle.block_store.specs.declared.values.Cell.TheVariants.{Unknown}
 use Rattle.block_store.specs.declared.values.Value.{Value}
 use Rattle.block_store.specs.Actions as actions
-use Rattle.block_store.specs.Actions.{World}
+use Rattle.block_store.specs.Actions.{World, SharedAction}
 use Rattle.c_tree.specs.Typed as tree
 use Rattle.c_tree.specs.TypedLayout.{size_in, align_in}
 use Rattle.c_meaning.specs.Control as control
 use Rattle.c_meaning.specs.Control.{Control, Variable, Todo, Use, TurnStart, Loop, Update, wanted, dropped}
+use Rattle.c_meaning.specs.Library.{changed_by}
 use Rattle.c_meaning.specs.Switches.{chosen, starts_at}
-use Rattle.c_meaning.specs.Values.{access_of_type, is_scalar, truth_of, updated}
-use Rattle.c_meaning.specs.Turns.{TurnContext, Now, Does, Way, stays, after_call, local_at, is_block, size_of_local, variable_at, with_variable, ended_if, ended_local, ended_locals, made_local, declared_local, declared, declared_by, pointer_in, run, run_node, run_place, run_place_node, run_arguments, nowhere_way, drops_object, run_dropped, run_dropped_node, local_way, place_way, left_way, struct_right_way, struct_left_way, is_struct, assigns_object, assigns, update_read_way, update_right_way, update_left_way, updates_variable, update_local_way, updates, initialises, declares, caller_way, returns, if_way, nothing, leaving, leave_way, row_way, end_way, round_over, step_way, body_way, loop_test_way, rounds_if, rounds, loop_way, while_loop, for_loop, do_loop, switch_way, starts, switch_test_way, update_of, run_stmt, run_stmt_node, run_row, run_from, way_of, use_of, from_point, here, turn}
+use Rattle.c_meaning.specs.Values.{access_of_type, is_atomic, is_minus, is_scalar, truth_of, updated}
+use Rattle.c_meaning.specs.Turns.{TurnContext, Now, Does, Way, stays, after_call, local_at, is_block, size_of_local, variable_at, with_variable, ended_if, ended_local, ended_locals, made_local, declared_local, declared, declared_by, pointer_in, run, run_node, run_place, run_place_node, run_arguments, nowhere_way, drops_object, run_dropped, run_dropped_node, local_way, place_way, left_way, struct_right_way, struct_left_way, is_struct, assigns_object, assigns, update_read_way, update_reads, update_changes, update_right_way, update_left_way, updates_variable, update_local_way, updates, initialises, declares, caller_way, returns, if_way, nothing, leaving, leave_way, row_way, end_way, round_over, step_way, body_way, loop_test_way, rounds_if, rounds, loop_way, while_loop, for_loop, do_loop, switch_way, starts, switch_test_way, update_of, run_stmt, run_stmt_node, run_row, run_from, way_of, use_of, from_point, here, turn}
 use Rattle.source_statements.proofs.Names.{name_todo, name_use}
 use Rattle.block_meaning.specs.Counts.{in_stmt, in_node, in_row, in_loop, reached, reached_by, Fits, FitsUse, FitsPoint, FitsControl, HasFewDeclarations}
 use Rattle.block_meaning.proofs.Counting.{Within, within_more, within_if, Makes, makes_more, MakesUse, MakesWay, Few, on_ok_within, plainly_within, acts_within, after_fits, leaves_makes, block_value, read_makes, only_makes, second_makes, first_makes, second_test_makes, first_test_makes, choice_makes, argument_makes, run_makes, run_node_makes, run_place_makes, run_place_node_makes, run_arguments_makes}
@@ -106,10 +107,19 @@ update_read_makes n h u at by w f g = record {
   goes = λ v x. on_ok_within n (length x.world.blocks + reached w.k) u.operator (λ r. (place_way h u.place at w).go r x) (updated h.typed.structs x.world.blocks u.ty u.op v by) (λ r. (place_makes n h u.place at w f g).goes r x);
 }
 
+update_reads_makes : (n : ℕ) (h : TurnContext) (u : Update) (at by : Value) (w : Way) → Few n h → MakesWay n w → Makes n (reached w.k) (update_reads h u at by w)
+update_reads_makes n h u at by w f g x =
+    acts_within n (reached w.k) h u.place (actions.load (pointer_in at) (access_of_type u.ty)) x.locals (λ r. after_call (wanted u.place (control.update_read u at by w.k)) r) f (λ r. after_fits n (wanted u.place (control.update_read u at by w.k)) r g.fits) x
+
+update_changes_makes : (n : ℕ) (h : TurnContext) (u : Update) (w : Way) (action : Option SharedAction) → Few n h → MakesWay n w → Makes n (reached w.k) (update_changes h u w action)
+update_changes_makes n h u w None f g x = tt
+update_changes_makes n h u w (Some action) f g x = acts_within n (reached w.k) h u.place action x.locals (λ old. control.begins w.k) f (λ old. g.fits) x
+
 update_right_makes : (n : ℕ) (h : TurnContext) (u : Update) (at : Value) (w : Way) → Few n h → MakesWay n w → MakesUse n (update_right_way h u at w)
 update_right_makes n h u at w f g = record {
   fits = g.fits;
-  goes = λ v x. acts_within n (reached w.k) h u.place (actions.load (pointer_in at) (access_of_type u.ty)) x.locals (λ r. after_call (wanted u.place (control.update_read u at v w.k)) r) f (λ r. after_fits n (wanted u.place (control.update_read u at v w.k)) r g.fits) x;
+  goes = λ v. does_if n (reached w.k) (is_atomic u.ty) (update_changes h u w (changed_by (is_minus u.op) (pointer_in at) v)) (update_reads h u at v w)
+      (update_changes_makes n h u w (changed_by (is_minus u.op) (pointer_in at) v) f g) (update_reads_makes n h u at v w f g);
 }
 
 update_left_makes : (n : ℕ) (h : TurnContext) (u : Update) (right : tree.Expr) (w : Way) → Few n h → MakesWay n w → MakesUse n (update_left_way h u right w)
