@@ -1,5 +1,5 @@
 -- What an evacuation leaves, and that it empties a sub-heap just where it moves an object.
-use Rattle.std.proofs.Common.{◌≡◌, ℕ, zero, suc, ◌+◌, ◌-◌, ◌<◌, Bool, true, false, cond, leb, List, [], ◌∷◌, ◌++◌, length, take, length-append, Option, Some, None, Contains, ◌↔◌, refl, sym, ap, ◌∙◌, subst, arith}
+use Rattle.std.proofs.Common.{◌≡◌, ℕ, zero, suc, ◌+◌, ◌-◌, ◌<◌, Bool, true, false, cond, List, [], ◌∷◌, ◌++◌, length, take, length-append, Option, Some, None, Contains, ◌↔◌, refl, sym, ap, ◌∙◌, arith}
 use Rattle.std.specs.Prelude.{◌==◌, flat_map, nat_lt, not, sum_by, option_and_then, IfSome}
 use Rattle.std.specs.List.{find, range_with_len}
 use Rattle.std.proofs.lemmas.Bool.Decides.{nat_tests}
@@ -7,7 +7,7 @@ use Rattle.sub_heaps.specs.declared.objects.Object.{Object}
 use Rattle.sub_heaps.specs.declared.moves.Move.{Move}
 use Rattle.sub_heaps.specs.SubHeaps.{SubHeaps, objects_in}
 use Rattle.sub_heaps.specs.Moving.{after_move}
-use Rattle.evacuate.specs.Evacuation.{Evacuated, emptying, evacuates, evacuates_down, evacuation, has_tail_for, holds_object, is_thin, then_moves, to_tail, with_moves}
+use Rattle.evacuate.specs.Evacuation.{Evacuated, emptying, evacuates, evacuates_down, evacuation, has_tail_for, is_thin, then_moves, to_tail, with_moves}
 use Rattle.evacuate.proofs.Legal.{and_left}
 use Rattle.move_plan.specs.Holding.{PinSet, is_pinned}
 use Rattle.arena_meaning.specs.Arena.{Storage, places_named}
@@ -17,7 +17,7 @@ use Rattle.flat_meaning.specs.Allowed.{pinned}
 use Rattle.ak_trace.specs.declared.entry.Entry.{Entry}
 use Rattle.flat_rules.specs.Entries.{evacuation_entry}
 use Rattle.flat_threads.specs.Contexts.{Context}
-use Rattle.flat_machine.specs.Clearing.{cleared_by, counted_emptied, evacuation_here, moves_some, shared_cleared, with_evacuation}
+use Rattle.flat_machine.specs.Clearing.{cleared_by, counted_emptied, evacuation_here, moves_some, shared_cleared}
 use Rattle.flat_machine.specs.Shares.{Shared, image_of}
 use Rattle.flat_machine.specs.Sweeping.{at_home, counted}
 use Rattle.flat_machine.specs.inner.Swept.{handles_home}
