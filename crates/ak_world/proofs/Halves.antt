@@ -1,5 +1,5 @@
 -- The two halves of a sweep: what the barrier asks holds behind the evacuation, and both together are what the rules say.
-use Rattle.std.proofs.Common.{◌≡◌, ℕ, ◌+◌, ◌-◌, ◌≤◌, nat_lt, Bool, true, false, cond, List, [], ◌∷◌, ◌++◌, map, length, ap, sym, subst, ◌∙◌, refl, arith, Option, Some, None, append_assoc, length-append}
+use Rattle.std.proofs.Common.{◌≡◌, ℕ, ◌+◌, ◌-◌, ◌≤◌, nat_lt, Bool, true, false, cond, List, [], ◌∷◌, ◌++◌, map, length, ap, refl, arith, Option, Some, None, append_assoc, length-append}
 use Rattle.std.proofs.lemmas.List.{append-nil}
 use Rattle.std.proofs.lemmas.Bool.Decides.{nat_tests}
 use Rattle.ak_trace.specs.declared.entry.Entry.{Entry}
@@ -13,7 +13,7 @@ use Rattle.flat_rules.proofs.Clearing.{home_on}
 use Rattle.world_rules.specs.Whole.{Whole}
 use Rattle.world_rules.specs.Calls.{with_entries, end_before, sweeps, waits_for_room}
 use Rattle.world_rules.specs.Sound.{IsSound}
-use Rattle.ak_world.specs.Sweeping.{MaySweep, behind_evacuation, cleared_world, behind_barrier, slid_world}
+use Rattle.ak_world.specs.Sweeping.{MaySweep, behind_evacuation, cleared_world, slid_world}
 
 ahead : (w : ℕ) → Bool → List Entry
 ahead w moved = cond moved (evacuation_entry w ∷ []) []

@@ -1,5 +1,5 @@
 -- A sweep in its two halves: the world behind an evacuation, and behind the barrier.
-use Rattle.std.specs.Prelude.{◌≡◌, ℕ, ◌+◌, ◌≤◌, All, if◌then◌else◌, List, [], ◌∷◌, map, length, count_by}
+use Rattle.std.specs.Prelude.{◌≡◌, ℕ, ◌+◌, ◌≤◌, All, if◌then◌else◌, [], ◌∷◌, map, length, count_by}
 use Rattle.flat_rules.specs.Machine.{Machine, Cleared, Swept, cleared}
 use Rattle.flat_rules.specs.Entries.{evacuation_entry, barrier_entry, served_entry}
 use Rattle.flat_rules.specs.Lawful.{AreHome, IsOfRun, waits_at_home}

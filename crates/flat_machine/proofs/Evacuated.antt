@@ -1,23 +1,27 @@
 -- What an evacuation leaves, and that it empties a sub-heap just where it moves an object.
-use Rattle.std.proofs.Common.{◌≡◌, ℕ, zero, suc, ◌+◌, ◌-◌, ◌<◌, Bool, true, false, cond, leb, List, [], ◌∷◌, ◌++◌, length, length-append, Option, Some, None, refl, sym, ap, ◌∙◌, subst, arith}
-use Rattle.std.specs.Prelude.{nat_lt, sum_by, option_and_then, IfSome}
+use Rattle.std.proofs.Common.{◌≡◌, ℕ, zero, suc, ◌+◌, ◌-◌, ◌<◌, Bool, true, false, cond, List, [], ◌∷◌, ◌++◌, length, take, length-append, Option, Some, None, Contains, ◌↔◌, refl, sym, ap, ◌∙◌, arith}
+use Rattle.std.specs.Prelude.{◌==◌, flat_map, nat_lt, not, sum_by, option_and_then, IfSome}
 use Rattle.std.specs.List.{find, range_with_len}
 use Rattle.std.proofs.lemmas.Bool.Decides.{nat_tests}
 use Rattle.sub_heaps.specs.declared.objects.Object.{Object}
 use Rattle.sub_heaps.specs.declared.moves.Move.{Move}
 use Rattle.sub_heaps.specs.SubHeaps.{SubHeaps, objects_in}
 use Rattle.sub_heaps.specs.Moving.{after_move}
-use Rattle.evacuate.specs.Evacuation.{Evacuated, emptying, evacuates, evacuates_down, evacuation, has_tail_for, holds_object, is_thin, then_moves, to_tail, with_moves}
+use Rattle.evacuate.specs.Evacuation.{Evacuated, emptying, evacuates, evacuates_down, evacuation, has_tail_for, is_thin, then_moves, to_tail, with_moves}
 use Rattle.evacuate.proofs.Legal.{and_left}
-use Rattle.arena_meaning.specs.Arena.{Storage}
+use Rattle.move_plan.specs.Holding.{PinSet, is_pinned}
+use Rattle.arena_meaning.specs.Arena.{Storage, places_named}
 use Rattle.arena_meaning.specs.Moves.{after_plan}
 use Rattle.struct_ir.specs.Instrs.{LinearCode}
 use Rattle.flat_meaning.specs.Allowed.{pinned}
+use Rattle.ak_trace.specs.declared.entry.Entry.{Entry}
 use Rattle.flat_rules.specs.Entries.{evacuation_entry}
 use Rattle.flat_threads.specs.Contexts.{Context}
-use Rattle.flat_machine.specs.Clearing.{cleared_by, counted_emptied, evacuation_here, moves_some, shared_cleared, with_evacuation}
+use Rattle.flat_machine.specs.Clearing.{cleared_by, counted_emptied, evacuation_here, moves_some, shared_cleared}
 use Rattle.flat_machine.specs.Shares.{Shared, image_of}
 use Rattle.flat_machine.specs.Sweeping.{at_home, counted}
+use Rattle.flat_machine.specs.inner.Swept.{handles_home}
+use Rattle.flat_machine.proofs.Slid.{pinned_is}
 
 -- ---- a sub-heap is emptied just where an object moves
 
@@ -59,6 +63,14 @@ down_agrees pinned (suc n) e agrees = down_agrees pinned n (evacuates pinned (su
 pub empties_where_it_moves : (pinned : ℕ → Bool) (h : SubHeaps) → Agrees (evacuation pinned h)
 empties_where_it_moves pinned h = down_agrees pinned (h.count - 1) (record { heaps = h; moves = []; emptied = 0 }) refl
 
+-- ---- what was planned, by the code's pins
+
+pub planned_is : (code : LinearCode) (s now : Shared) (home : List (Option Context)) (pins : PinSet) (heaps : SubHeaps) (count : ℕ) → s ≡ now → count ≡ length s.memory.threads
+    → ((at : ℕ) → (is_pinned pins at ≡ true) ↔ Contains (places_named s.memory.storage (flat_map (handles_home code) (take count home))) at) → heaps ≡ s.memory.storage.heaps
+    → evacuation (is_pinned pins) heaps ≡ evacuation_here (image_of code now) (at_home now home)
+planned_is code s now home pins heaps count now_is all named heaps_are =
+    ap (λ p. evacuation p heaps) (pinned_is code s home pins count all named) ∙ ap (evacuation (pinned (image_of code s) (at_home s home))) heaps_are ∙ ap (λ (v : Shared). evacuation_here (image_of code v) (at_home v home)) now_is
+
 -- ---- what is left
 
 no_moves : (ms : List Move) → nat_lt 0 (length ms) ≡ false → ms ≡ []
@@ -68,23 +80,38 @@ no_moves (m ∷ ms) none = absurd (let bad : true ≡ false = sym (lt_true (suc 
 pub none_moves : (e : Evacuated) → moves_some e ≡ false → e.moves ≡ []
 none_moves e none = no_moves e.moves none
 
-module _ (code : LinearCode) (s : Shared) (home : List (Option Context)) where
+some_length : (n : ℕ) → nat_lt 0 n ≡ not (n == 0)
+some_length zero = refl
+some_length (suc n) = let ne : (suc n == 0) ≡ false = grind (arith, nat_tests) in lt_true (suc n) (omega arith) ∙ sym (ap not ne)
+
+-- whether the list of moves is empty says whether there are any
+pub some_moves : (e : Evacuated) (moves : List Move) (len : ℕ) (empty : Bool) → len ≡ length moves → moves ≡ e.moves → empty ≡ (len == 0) → moves_some e ≡ not empty
+some_moves e moves len empty long same is = some_length (length e.moves) ∙ ap (λ n. not (n == 0)) (sym (long ∙ ap length same)) ∙ ap not (sym is)
+
+module _ (code : LinearCode) (s : Shared) (home : List (Option Context)) (now : Shared) (now_is : s ≡ now) where
   abbrev here : Evacuated
   here = evacuation_here (image_of code s) (at_home s home)
 
+  whole : (cleared_by code s home).shared ≡ (cleared_by code now home).shared
+  whole = ap (λ (v : Shared). (cleared_by code v home).shared) now_is
+
   -- where it moves nothing
-  pub stays : moves_some here ≡ false → record { memory = s.memory; output_limit = s.output_limit; made = []; barriers = s.barriers } ≡ (cleared_by code s home).shared
-  stays none = ap (shared_cleared (image_of code s) s (at_home s home)) (sym none)
+  pub stays : (made : List Entry) → moves_some here ≡ false → made ≡ [] → record { memory = s.memory; output_limit = s.output_limit; made = made; barriers = s.barriers } ≡ (cleared_by code now home).shared
+  stays made none made_is =
+      ap (λ (es : List Entry). record { memory = s.memory; output_limit = s.output_limit; made = es; barriers = s.barriers }) made_is
+      ∙ ap (shared_cleared (image_of code s) s (at_home s home)) (sym none)
+      ∙ whole
 
   -- where it moves an object, of what was kept
-  pub moves : (storage : Storage) (objects bytes emptied : ℕ) → moves_some here ≡ true → s.memory.leaving ≡ None → storage ≡ after_plan here.moves s.memory.storage
+  pub moves : (storage : Storage) (made : List Entry) (objects bytes emptied : ℕ) → moves_some here ≡ true → s.memory.leaving ≡ None → storage ≡ after_plan here.moves s.memory.storage → made ≡ evacuation_entry 0 ∷ []
       → objects ≡ counted (s.barriers.objects + length here.moves) → bytes ≡ counted (s.barriers.bytes + sum_by (λ m. m.size) here.moves) → emptied ≡ counted_emptied (s.barriers.emptied + here.emptied)
-      → record { memory = record { storage = storage; output = s.memory.output; threads = s.memory.threads; leaving = s.memory.leaving }; output_limit = s.output_limit; made = evacuation_entry 0 ∷ []; barriers = record { count = s.barriers.count; objects = objects; bytes = bytes; emptied = emptied; last = s.barriers.last } } ≡ (cleared_by code s home).shared
-  moves storage objects bytes emptied some idle stored is_objects is_bytes is_emptied =
+      → record { memory = record { storage = storage; output = s.memory.output; threads = s.memory.threads; leaving = s.memory.leaving }; output_limit = s.output_limit; made = made; barriers = record { count = s.barriers.count; objects = objects; bytes = bytes; emptied = emptied; last = s.barriers.last } } ≡ (cleared_by code now home).shared
+  moves storage made objects bytes emptied some idle stored told is_objects is_bytes is_emptied =
       (λ i. record {
         memory = record { storage = stored i; output = s.memory.output; threads = s.memory.threads; leaving = idle i };
         output_limit = s.output_limit;
-        made = evacuation_entry 0 ∷ [];
+        made = told i;
         barriers = record { count = s.barriers.count; objects = is_objects i; bytes = is_bytes i; emptied = is_emptied i; last = s.barriers.last };
       })
       ∙ ap (shared_cleared (image_of code s) s (at_home s home)) (sym some)
+      ∙ whole
