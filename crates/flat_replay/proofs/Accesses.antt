@@ -76,7 +76,7 @@ module _ (follow : LinearCodeFollowsCode) (p : Ir) (guarded : IsGuarded p) (code
         (λ n.
         let h : IsTail (n.d ∷ n.ds) = subst IsTail n.due (withins (machine_of code) (rules_of s) (first_shared code (settings_limits s)) before x ran).tail in
         let k : n.d.kind ≡ kind.turn = sym (same_kind e n.d n.same) ∙ is in
-        elim h.0 [ inl q ↦ absurd (let bad : kind.turn ≡ kind.served = sym k ∙ q in cc bad) | inr q ↦ absurd (let bad : kind.turn ≡ kind.barrier = sym k ∙ q in cc bad) ])
+        elim (h.0) [ inl q ↦ absurd (let bad : kind.turn ≡ kind.served = sym k ∙ q in cc bad) | inr q ↦ absurd (let bad : kind.turn ≡ kind.barrier = sym k ∙ q in cc bad) ])
         (λ f. f.settled) st
 
     -- a barrier's entry: it begins its event, or its evacuation's does, and then each allocation that is served is that event's

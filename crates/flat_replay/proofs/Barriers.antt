@@ -38,7 +38,7 @@ use Rattle.flat_machine.specs.Sweeping.{at_home}
 use Rattle.flat_machine.proofs.Opened.{opened_of}
 use Rattle.flat_simulation.proofs.Loaded.{first_consistent}
 use Rattle.flat_machine.proofs.Slid.{slide_is}
-use Rattle.flat_replay.specs.Barriers.{BarrierBehind, BarrierKeeps, EvacuationBehind, alone, behind_evacuation, middle, moves_away, moves_next, threads_home}
+use Rattle.flat_replay.specs.Barriers.{BarrierBehind, BarrierKeeps, EvacuationBehind, directly, behind_evacuation, middle, moves_away, moves_next, threads_home}
 use Rattle.flat_replay.specs.Laws.{BarriersOfARunKeepObjects}
 use Rattle.flat_replay.proofs.Consistent.{Good, all_good, barrier_here, evacuation_here, middle_agrees}
 
@@ -205,7 +205,7 @@ module _ (code : LinearCode) (s : Settings) (program : IsProgram code) (loadable
         here = x;
         leads = leads;
         alone = swept_by_it.alone;
-        stands = alone refl (same_memory x s.evacuate (moved.1 apart));
+        stands = directly refl (same_memory x s.evacuate (moved.1 apart));
         next = y;
         comes = ran_on code s before x e y ran st;
         keeps = barrier_keeps x y (good before x ran) going quiet memory;
@@ -242,13 +242,13 @@ module _ (code : LinearCode) (s : Settings) (program : IsProgram code) (loadable
 
 pub barriers_of_a_run_keep_objects : BarriersOfARunKeepObjects
 barriers_of_a_run_keep_objects code s program loadable log z replays = record {
-  evacuations = λ before e more is barrier evacuates. at before e more is (λ x y was st. evacuation_found code s program loadable before e x y was st barrier evacuates);
-  barriers = λ before e more is barrier apart. at before e more is (λ x y was st. barrier_found code s program loadable before e x y was st barrier apart);
+  evacuations = λ before e more is barrier evacuates. at before e more is (EvacuationBehind code s before) (λ x y was st. evacuation_found code s program loadable before e x y was st barrier evacuates);
+  barriers = λ before e more is barrier apart. at before e more is (BarrierBehind code s before e) (λ x y was st. barrier_found code s program loadable before e x y was st barrier apart);
 }
   where
-    at : (before : List Entry) (e : Entry) (more : List Entry) → log ≡ before ++ e ∷ more → {R : Type 0}
+    at : (before : List Entry) (e : Entry) (more : List Entry) → log ≡ before ++ e ∷ more → (R : Type 0)
         → ((x y : State Shared Context) → run (machine_of code) (rules_of s) before (start (machine_of code) (rules_of s) (first_shared code (settings_limits s))) ≡ Some x → step (machine_of code) (rules_of s) x e ≡ Some y → R) → R
-    at before e more is {R} go =
+    at before e more is R go =
         option_and_then_some (settled (machine_of code) (rules_of s)) (run (machine_of code) (rules_of s) log (start (machine_of code) (rules_of s) (first_shared code (settings_limits s)))) z replays (λ w ran _.
         at_entry (machine_of code) (rules_of s) (start (machine_of code) (rules_of s) (first_shared code (settings_limits s))) before e more w (ap (λ (es : List Entry). run (machine_of code) (rules_of s) es (start (machine_of code) (rules_of s) (first_shared code (settings_limits s)))) (sym is) ∙ ran) {R = R}
         (λ x y was st after. go x y was st))

@@ -33,7 +33,6 @@ use Rattle.flat_threads.specs.Going.{came_from, gone_on, stopped_at}
 use Rattle.world_rules.proofs.Invariant.{moved, none_ends}
 use Rattle.world_rules.proofs.Sits.{Moved, Sit, SitsAt, lives}
 use Rattle.flat_machine.specs.Acting.{acted_by}
-use Rattle.sub_heaps.specs.declared.moves.Move.{Move}
 use Rattle.flat_machine.specs.Clearing as clearing
 use Rattle.flat_machine.specs.Clearing.{cleared_state, evacuation_of, moves_some, shared_cleared}
 use Rattle.flat_machine.specs.Laws.{IsTheBarrier, barrier_of}
@@ -209,9 +208,6 @@ module _ (code : LinearCode) (rules : Rules) where
       cleared_heaps false = same_heaps x.shared.memory
       cleared_heaps true = by (moves_some (clearing.evacuation_here (image_of code x.shared) (at_home x.shared (homes_of x.places))))
         where
-          away : List Move
-          away = (clearing.evacuation_here (image_of code x.shared) (at_home x.shared (homes_of x.places))).moves
-
           by : (moved : Bool) → SameHeaps x.shared.memory (shared_cleared (image_of code x.shared) x.shared (at_home x.shared (homes_of x.places)) moved).memory
           by false = same_heaps x.shared.memory
           by true =

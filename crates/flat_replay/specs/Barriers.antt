@@ -71,7 +71,7 @@ pub record EvacuationBehind (code : LinearCode) (s : Settings) (before : List En
 -- where a barrier's entry stands behind a journal that leads to a state: directly behind it, and then no evacuation moved anything; or behind
 -- its evacuation's entry
 pub data Stands (code : LinearCode) (s : Settings) (front before : List Entry) (here : State Shared Context) : Type 0 where
-  alone : before ≡ front → (middle code s here).memory ≡ here.shared.memory → Stands code s front before here
+  directly : before ≡ front → (middle code s here).memory ≡ here.shared.memory → Stands code s front before here
   behind_evacuation : (v : Entry) → before ≡ front ++ v ∷ [] → v.kind ≡ kind.barrier → v.how ≡ how.evacuation → Stands code s front before here
 
 -- a barrier's entry behind a journal: what the journal leads to up to the entry or its evacuation, where no thread is out, and what the
