@@ -29,7 +29,7 @@ use Rattle.flat_rules.specs.inner.Steps.{IsFirst, IsNext, entry_is, run-append, 
 use Rattle.flat_threads.specs.Contexts.{Context, IsProgram}
 use Rattle.world_rules.proofs.Invariant.{none_ends}
 use Rattle.world_rules.proofs.Walks.{at_entry, withins}
-use Rattle.flat_machine.specs.Clearing.{cleared_state, evacuation_here as emptied_here, moves_some, shared_cleared}
+use Rattle.flat_machine.specs.Clearing.{cleared_state, shared_cleared}
 use Rattle.flat_machine.specs.Machine.{machine_of}
 use Rattle.flat_machine.specs.Replays.{replay}
 use Rattle.flat_machine.specs.Shares.{Shared, IsSharedOf, image_of}

@@ -55,10 +55,6 @@ module _ (p : Ir) (code : LinearCode) (s : Settings) (program : IsProgram code)
   loaded = image_for code s
 
   module _ (quiet : count_by is_out x.places ≡ 0) where
-    -- what threads share where the barrier's own moves begin
-    abbrev mid : Shared
-    mid = middle code s x
-
     abbrev here : events.State Spot
     here = at_home (middle code s x) (homes_of x.places)
 

@@ -36,7 +36,8 @@ use Rattle.flat_rules.specs.Events.{most_local}
 use Rattle.flat_rules.specs.Replays.{step}
 use Rattle.flat_rules.specs.Replays as rules
 use Rattle.flat_rules.specs.Rules.{rules_of}
-use Rattle.flat_rules.specs.States.{Mood, free, asked, must, State, out, place_at, homes_of, none_out, start}
+use Rattle.flat_rules.specs.States.{Mood, free, asked, must, State, out, place_at, homes_of, none_out}
+use Rattle.flat_rules.specs.States as states
 use Rattle.flat_threads.specs.Contexts.{Context}
 use Rattle.flat_threads.specs.Going.{gone_on}
 use Rattle.world_rules.specs.Journals.{IsBehind}
@@ -144,7 +145,7 @@ pub record ServesOf (code : LinearCode) (s : Settings) (log : List Entry) (e : E
   pub leads : replay code s front ≡ Some here
   pub alone : none_out (machine_of code) (rules_of s) here ≡ true
   pub next : State Shared Context
-  pub goes : rules.run (machine_of code) (rules_of s) (log ++ e ∷ []) (start (machine_of code) (rules_of s) (first_shared code (settings_limits s))) ≡ Some next
+  pub goes : rules.run (machine_of code) (rules_of s) (log ++ e ∷ []) (states.start (machine_of code) (rules_of s) (first_shared code (settings_limits s))) ≡ Some next
   pub memory : let shared = middle code s here in let y = image_of code shared in
       next.shared.memory ≡ (served_state (after_serves y (sweep_serves y (at_home shared (homes_of here.places))) (swept_first code shared here))).memory
   pub keeps : let shared = middle code s here in let y = image_of code shared in (vs : List Serve) (v : Serve) (us : List Serve) → sweep_serves y (at_home shared (homes_of here.places)) ≡ vs ++ v ∷ us
