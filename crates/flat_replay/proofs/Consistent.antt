@@ -131,31 +131,31 @@ module _ (code : LinearCode) (rules : Rules) where
       clears_here = (machine_is_flat code).clears x.shared (homes_of x.places) held.of_ all_here home_here
 
       -- what threads share behind an evacuation is that of the run, and who was at home is there
-      pub middle_of_run : (on : Bool) → IsSharedOf code (cleared m on x.shared (homes_of x.places)).shared
+      pub middle_of_run : (asks : Bool) → IsSharedOf code (cleared m asks x.shared (homes_of x.places)).shared
       middle_of_run false = held.of_
       middle_of_run true = clears_here.of_
 
-      middle_home : (on : Bool) → AreHome m (cleared m on x.shared (homes_of x.places)).shared (homes_of x.places)
+      middle_home : (asks : Bool) → AreHome m (cleared m asks x.shared (homes_of x.places)).shared (homes_of x.places)
       middle_home false = home_here
       middle_home true = home_on m (IsSharedOf code) (IsContextOf code) (machine_is_flat code) x.shared (homes_of x.places) home_here (cleared_by code x.shared (homes_of x.places)) clears_here
 
       -- what a barrier does there
-      pub swept_here : (on : Bool) → Sweeps m (IsSharedOf code) (IsContextOf code) (cleared m on x.shared (homes_of x.places)).shared (homes_of x.places) (sweep m on x.shared (homes_of x.places))
-      swept_here on = (machine_is_flat code).sweeps (cleared m on x.shared (homes_of x.places)).shared (homes_of x.places) (middle_of_run on) all_here (middle_home on)
+      pub swept_here : (asks : Bool) → Sweeps m (IsSharedOf code) (IsContextOf code) (cleared m asks x.shared (homes_of x.places)).shared (homes_of x.places) (sweep m asks x.shared (homes_of x.places))
+      swept_here asks = (machine_is_flat code).sweeps (cleared m asks x.shared (homes_of x.places)).shared (homes_of x.places) (middle_of_run asks) all_here (middle_home asks)
 
       module _ (agree : Agrees x) where
         -- an evacuation is an event
         pub evacuation_here : IsTheEvacuation code x.shared (homes_of x.places)
         evacuation_here = evacuation_is_its_event code x.shared (homes_of x.places) held.of_ agree.heaps all_here home_here
 
-        pub middle_agrees : (on : Bool) → IsConsistent (cleared m on x.shared (homes_of x.places)).shared.memory.storage
+        pub middle_agrees : (asks : Bool) → IsConsistent (cleared m asks x.shared (homes_of x.places)).shared.memory.storage
         middle_agrees false = agree
         middle_agrees true = clear_agrees code x.shared (homes_of x.places) evacuation_here agree
 
         -- and so is the barrier behind it
-        pub barrier_here : (on : Bool) → IsTheBarrier code (cleared m on x.shared (homes_of x.places)).shared (homes_of x.places)
-        barrier_here on = let h : IsConsistent (cleared m on x.shared (homes_of x.places)).shared.memory.storage = middle_agrees on in
-            barrier_is_its_event code (cleared m on x.shared (homes_of x.places)).shared (homes_of x.places) (middle_of_run on) h.heaps all_here (middle_home on)
+        pub barrier_here : (asks : Bool) → IsTheBarrier code (cleared m asks x.shared (homes_of x.places)).shared (homes_of x.places)
+        barrier_here asks = let h : IsConsistent (cleared m asks x.shared (homes_of x.places)).shared.memory.storage = middle_agrees asks in
+            barrier_is_its_event code (cleared m asks x.shared (homes_of x.places)).shared (homes_of x.places) (middle_of_run asks) h.heaps all_here (middle_home asks)
 
     turned_agrees : (w t n k : ℕ) (mood : Mood) (c : Context) → place_at x.places t ≡ out w c n mood → (k ≡ 0) ⊎ (k ≡ most_local) → (g : Goes)
         → Agrees x → Agrees (turned_by m rules x w t (n + 1) mood (acted_by code x.shared (gone_on code k c)) g)

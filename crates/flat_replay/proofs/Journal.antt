@@ -55,7 +55,7 @@ use Rattle.flat_replay.proofs.Consistent.{Good, all_good, all_here, barrier_here
 use Rattle.flat_replay.proofs.Doings.{SameHeaps, more_heaps, same_heaps, served_heaps}
 use Rattle.flat_replay.proofs.Entries.{same_is, serves_attempts, serves_ids, serves_picks}
 use Rattle.flat_replay.proofs.LocalTurns.{GoesAlone, goes_alone_to}
-use Rattle.flat_replay.proofs.Segments.{Comes, none_come}
+use Rattle.flat_replay.proofs.Segments.{Comes, joins, none_come}
 use Rattle.flat_threads.proofs.Settings.{local_ignores_settings}
 use Rattle.flat_replay.proofs.Serving.{all_say, from_first, serve_pick, stages_of_run}
 use Rattle.flat_replay.proofs.Stages.{all_after, all_home, context_at, map-set, stages_same}
