@@ -1,5 +1,5 @@
 -- The report of a run that ended: eight lines, and a ninth where evacuations are wanted.
-use Rattle.std.specs.Prelude.{ℕ, Bool, true, false, List, [], ◌++◌, codes, decimal, Option, Some, None}
+use Rattle.std.specs.Prelude.{ℕ, Bool, List, [], ◌++◌, codes, decimal, Option, Some, None, if◌then◌else◌}
 use Rattle.std.specs.Fmt.{signed_decimal}
 use Rattle.ak_trace.specs.declared.endings.End.{End}
 use Rattle.ak_trace.specs.declared.endings.End.TheVariants as ends
@@ -45,10 +45,13 @@ last_text (Some barrier) = barrier_text barrier
 abbrev pub line : List ℕ → List ℕ → List ℕ
 line of told = of ++ codes ": " ++ told ++ codes "\n"
 
+-- so many sub-heaps
+abbrev pub sub_heaps_text : ℕ → List ℕ
+sub_heaps_text number = decimal number ++ codes " sub-heaps"
+
 -- the line of evacuations, where they are wanted: how many sub-heaps they emptied, each time that they did
 abbrev pub evacuated_text : (evacuates : Bool) → ℕ → List ℕ
-evacuated_text true emptied = line (codes "evacuated") (decimal emptied ++ codes " sub-heaps")
-evacuated_text false emptied = []
+evacuated_text evacuates emptied = if evacuates then line (codes "evacuated") (sub_heaps_text emptied) else []
 
 -- the eight lines and, where evacuations are wanted, the ninth
 unfoldable pub report_text : (evacuates : Bool) → End → Report → List ℕ

@@ -63,7 +63,7 @@ short_run_text-evacuating = refl
 abbrev pub room_made : Report
 room_made = record {
   threads = 1;
-  entries = 15;
+  entries = 13;
   barriers = 1;
   moved_objects = 1;
   moved_bytes = 64;
@@ -75,7 +75,7 @@ room_made = record {
   last = Some (record { before = 128; after = 128; room = 4096 });
 }
 
-pub room_made_text : report_text true (Done (pos 0)) room_made ≡ codes "ended: done 0\nthreads: 1\nentries: 15\nbarriers: 1\nmoved: 1 objects, 64 bytes\nlive: 3 objects, 4224 bytes\nextent: 4224 of 8192\nlast barrier: extent 128 to 128, room 4096\nevacuated: 1 sub-heaps\n"
+pub room_made_text : report_text true (Done (pos 0)) room_made ≡ codes "ended: done 0\nthreads: 1\nentries: 13\nbarriers: 1\nmoved: 1 objects, 64 bytes\nlive: 3 objects, 4224 bytes\nextent: 4224 of 8192\nlast barrier: extent 128 to 128, room 4096\nevacuated: 1 sub-heaps\n"
 unfolding report_text digits
 room_made_text = refl
 

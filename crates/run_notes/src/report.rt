@@ -1,5 +1,5 @@
 ghost use Rattle.std.specs.Prelude.{◌≡◌, ◌+◌, ◌≤◌, ◌++◌, [], length, codes, decimal, vec_len, vec_capacity};
-ghost use Rattle.run_notes.specs.Reports.{barrier_text, end_text, evacuated_text, last_text, line, objects_text, report_text, trap_name};
+ghost use Rattle.run_notes.specs.Reports.{barrier_text, end_text, evacuated_text, last_text, line, objects_text, report_text, sub_heaps_text, trap_name};
 
 use crate::pieces::{push_bytes, push_decimal};
 use ak_trace::{End, TrapKind};
@@ -152,6 +152,19 @@ fn push_last(text: &mut Vec<u8>, last: Option<LastBarrier>)
     push_bytes(text, b"\n");
 }
 
+// Writes so many sub-heaps.
+fn push_sub_heaps(text: &mut Vec<u8>, of: &[u8], number: u64)
+    requires { vec_len text.old + (length of.now + 33) ≤ vec_capacity text.old }
+    ensures items { text.new.items ≡ text.old.items ++ line of.now (sub_heaps_text number) }
+    ensures len { vec_len text.new ≤ vec_len text.old + (length of.now + 33) }
+    ensures capacity { vec_capacity text.new ≡ vec_capacity text.old }
+{
+    push_bytes(text, of);
+    push_bytes(text, b": ");
+    push_decimal(text, number);
+    push_bytes(text, b" sub-heaps\n");
+}
+
 // Writes the line of evacuations, where they are wanted.
 fn push_evacuated(text: &mut Vec<u8>, evacuates: bool, emptied: u32)
     requires { vec_len text.old + 42 ≤ vec_capacity text.old }
@@ -160,9 +173,7 @@ fn push_evacuated(text: &mut Vec<u8>, evacuates: bool, emptied: u32)
     ensures capacity { vec_capacity text.new ≡ vec_capacity text.old }
 {
     if evacuates {
-        push_bytes(text, b"evacuated: ");
-        push_decimal(text, u64::from(emptied));
-        push_bytes(text, b" sub-heaps\n");
+        push_sub_heaps(text, b"evacuated", u64::from(emptied));
     }
 }
 
