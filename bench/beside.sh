@@ -4,7 +4,8 @@
 #   beside the goal: the programs of examples/ that alaska runs for 0.1 seconds or more, and those of bench/beside: sums in locals, walks
 #   over an array, linked lists, hashes of a text, and mallocs and frees of drawn sizes. alaska's seconds have its compiling in them.
 #   Then, for two programs that give most of their objects up, how many times the bytes that they still have the heap takes: alaska's extent
-#   behind the last barrier, without the table of ids, and what lies in memory of a process over glibc's malloc.
+#   behind the last barrier, without the table of ids, and what lies in memory of a process over glibc's malloc; and how many of 128 sub-heaps
+#   with --evacuate 1 evacuations emptied, each time that they did.
 # It measures bin/alaska, which ./prove builds, or crates/alaska/out/alaska as `rt ci` left it in this checkout.
 set -eu
 here=$(cd "$(dirname "$0")/.." && pwd)
@@ -44,17 +45,20 @@ note_of() { # word: the first number of a line of the last report
 }
 
 heap() { # file: how much of each heap the live bytes take
-  local live extent last resident
+  local live extent last emptied resident
   "$program" "$1" --subheap 16777216 --subheaps 8 --ids 1048576 --entries 16000000 --every 100000 >ours 2>note || { cat note >&2; exit 1; }
   live=$(sed -n 's/^live //p' ours)
   extent=$(note_of extent)
   last=$(sed -n 's/^last barrier: extent [0-9]* to \([0-9]*\),.*/\1/p' note)
   [ "$extent" = "$last" ] || { echo "bench/beside.sh: the heap changed behind the last barrier" >&2; exit 1; }
+  "$program" "$1" --subheap 1048576 --subheaps 128 --ids 1048576 --entries 16000000 --every 100000 --evacuate 1 >moved 2>note || { cat note >&2; exit 1; }
+  cmp -s ours moved || { echo "bench/beside.sh: $(basename "$1") prints another thing with --evacuate 1" >&2; exit 1; }
+  emptied=$(note_of evacuated)
   gcc -O0 -w "${headers[@]}" -o theirs.out "$1" "$here/bench/beside/resident.c" -pthread
   ./theirs.out >theirs 2>note
   cmp -s ours theirs || { echo "bench/beside.sh: $(basename "$1") prints another thing by gcc" >&2; exit 1; }
   resident=$(sed -n 's/^resident //p' note)
-  awk -v name="$(basename "$1")" -v l="$live" -v e="$extent" -v r="$resident" 'BEGIN { printf "%-16s %11d %11d %7.2f %11d %7.2f\n", name, l, e, e / l, r, r / l }'
+  awk -v name="$(basename "$1")" -v l="$live" -v e="$extent" -v r="$resident" -v v="$emptied" 'BEGIN { printf "%-16s %11d %11d %7.2f %11d %7.2f %9d\n", name, l, e, e / l, r, r / l, v }'
 }
 
 printf '%-16s %9s %9s %9s %9s\n' program alaska 'gcc -O0' times 'at most'
@@ -66,7 +70,7 @@ for name in sums walks lists hashes; do
 done
 beside "$here/bench/beside/churn.c" 10 ""
 
-printf '\n%-16s %11s %11s %7s %11s %7s\n' trace 'live bytes' extent times resident times
+printf '\n%-16s %11s %11s %7s %11s %7s %9s\n' trace 'live bytes' extent times resident times evacuated
 for name in scattered phases; do
   heap "$here/bench/beside/$name.c"
 done

@@ -30,11 +30,11 @@ NOTES = {
 CHECKED = rb"checked: (done -?\d+|all blocked|turns spent) after \d+ turns\n"
 BUILT = rb"built: \d+ bytes\n"
 RAN = 0, 6, 7, 8, 9, 10
-REPORT = rb"threads: \d+\nentries: \d+\nbarriers: \d+\nmoved: .*\nlive: .*\nextent: .*\nlast barrier: .*\n"
+REPORT = rb"threads: \d+\nentries: \d+\nbarriers: \d+\nmoved: .*\nlive: .*\nextent: .*\nlast barrier: .*\n(evacuated: \d+ sub-heaps\n)?"
 TOKEN = re.compile(r'[A-Za-z_]\w*|\d+|"(?:\\.|[^"\\\n])*"|//[^\n]*|/\*.*?\*/|\s+|[-+<>=!&|]{2}|.', re.S)
 OPTIONS = {
     "workers": "1 2 4 16 0 17", "schedule": "0 7 18446744073709551615 18446744073709551616", "every": "1 3 100 0 1000000",
-    "subheap": "4096 65536 16777216 5000", "subheaps": "1 2 16 256 257", "ids": "1 2 1000 1048576 0", "output": "1 3 1000 16777216",
+    "subheap": "4096 65536 16777216 5000", "subheaps": "1 2 16 256 257", "ids": "1 2 1000 1048576 0", "evacuate": "0 1 1 2", "output": "1 3 1000 16777216",
     "mode": "run check check build load churn walk", "seed": "0 1 99", "size": "1 3 40 4000",
 }
 

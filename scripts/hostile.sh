@@ -239,6 +239,8 @@ words text.c --every 0
 words text.c --subheap 5000
 words text.c --subheap 16777216 --subheaps 17
 words text.c --output ''
+words text.c --evacuate 2
+words text.c --evacuate true
 words text.c --nothing 1
 words text.c --mode walk
 words text.c --seed 1

@@ -34,7 +34,7 @@ use std::io;
 #[derive(Clone, Copy)]
 struct Row(&'static str, &'static str);
 
-const ROWS: [Row; 88] = [
+const ROWS: [Row; 90] = [
     Row("alaska nothing.c", "all"),
     Row("alaska answer.c", "all"),
     Row("alaska heap.c", "ended live"),
@@ -139,6 +139,14 @@ const ROWS: [Row; 88] = [
     Row("alaska double_label.c", "all"),
     Row("alaska fragmented.c", "all"),
     Row("alaska fragmented.c --every 100", "all"),
+    Row(
+        "alaska emptied.c --subheap 4096 --subheaps 2 --evacuate 1",
+        "ended barriers moved live extent last evacuated",
+    ),
+    Row(
+        "alaska emptied.c --subheap 4096 --subheaps 2 --evacuate 0",
+        "ended barriers moved live extent last evacuated",
+    ),
     Row(
         "alaska cache.c --workers 4 --every 50",
         "ended threads live",

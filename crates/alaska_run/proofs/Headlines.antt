@@ -188,11 +188,11 @@ module _ (words : List (List ℕ)) (file : List ℕ → Shelved) (out note : Cha
 
   -- ---- what was written
 
-  wrote : Written (status_of h.end) e.status h.final.output (report_text h.end h.final.report ++ []) out note
+  wrote : Written (status_of h.end) e.status h.final.output (report_text x.settings.evacuate h.end h.final.report ++ []) out note
   wrote =
       let a : Written (status_of h.end) e.status r.output.items r.line.items out note = subst (λ (z : Status). Written z e.status r.output.items r.line.items out note) h.status w in
       let b : Written (status_of h.end) e.status h.final.output r.line.items out note = subst (λ (z : List ℕ). Written (status_of h.end) e.status z r.line.items out note) h.output a in
-      subst (λ (z : List ℕ). Written (status_of h.end) e.status h.final.output z out note) (h.line ∙ sym (append-nil (report_text h.end h.final.report))) b
+      subst (λ (z : List ℕ). Written (status_of h.end) e.status h.final.output z out note) (h.line ∙ sym (append-nil (report_text x.settings.evacuate h.end h.final.report))) b
 
   -- ---- the whole
 
@@ -211,7 +211,7 @@ module _ (words : List (List ℕ)) (file : List ℕ → Shelved) (out note : Cha
     behind = [];
     answer = answer_by x.settings.mode e.text checked code e h.end (status_of h.end) [] of_text (refl, refl);
     what_it_wrote = wrote;
-    how_it_ended = judged_then (status_of h.end) e.status h.final.output (report_text h.end h.final.report ++ []) out note (run_fault h.end) wrote;
+    how_it_ended = judged_then (status_of h.end) e.status h.final.output (report_text x.settings.evacuate h.end h.final.report ++ []) out note (run_fault h.end) wrote;
   }
 
   pub of_run : Headline words file out note e

@@ -117,8 +117,8 @@ pub record WithARun (file : List ℕ → Shelved) (out note : Channel) (e : Endi
   pub judged : Status
   pub behind : List ℕ
   pub answer : IsAnswerBy settings.mode e the_run.end judged behind
-  -- out gained just what the run printed, and note its report and what stands behind it, as far as the sinks took them
-  pub what_it_wrote : Written judged e.status the_run.final.output (report_text the_run.end the_run.final.report ++ behind) out note
+  -- out gained just what the run printed, and note its report, as the settings want it, and what stands behind it, as far as the sinks took them
+  pub what_it_wrote : Written judged e.status the_run.final.output (report_text settings.evacuate the_run.end the_run.final.report ++ behind) out note
   -- the status is that, or a sink failed
   pub how_it_ended : IsOrUnwritten judged e.status
 

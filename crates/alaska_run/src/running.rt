@@ -50,7 +50,7 @@ pub(crate) fn run_opened<R: Threads + Wait + Sync, G: Gate>(rt: &R, opened: Open
         shared,
     } = world.finish(passes);
     let report = shared.report(journal.journal().len());
-    push_report(&mut line, end, &report);
+    push_report(&mut line, settings.evacuate, end, &report);
     Ran {
         status: status_of(end),
         settings,

@@ -138,7 +138,7 @@ fn slide_down(
     let legal = is_legal(arena.heaps(), pins, plan);
     let judged = start.elapsed(rt)?.as_micros();
     let start = Instant::now(rt)?;
-    arena.apply(plan, pins);
+    arena.apply(plan.moves(), pins);
     let moved = start.elapsed(rt)?.as_micros();
     let times = Times {
         planned,

@@ -1,9 +1,9 @@
 -- One turn of a plan: the move is allowed, and what it makes is the storage after it.
-use Rattle.std.proofs.Common.{◌≡◌, ℕ, ◌+◌, ◌^◌, ◌<◌, ◌≤◌, Bool, false, eqb, leb, List, [], ◌∷◌, length, drop, get_or, slice_get, Option, Some, None, IsSomeAnd, is_some, set, refl, sym, ap, ◌∙◌, subst, inl, inr, arith}
+use Rattle.std.proofs.Common.{◌≡◌, ℕ, ◌+◌, ◌^◌, ◌<◌, ◌≤◌, Bool, false, eqb, leb, List, [], ◌∷◌, length, drop, slice_get, Option, Some, None, IsSomeAnd, is_some, set, refl, sym, ap, ◌∙◌, subst, inl, inr, arith}
 use Rattle.std.specs.List.{find}
 use Rattle.std.proofs.lemmas.Bool.{cases_eq, eq-eqb, ne_eqb, le-leb, lt-leb}
 use Rattle.std.proofs.lemmas.List.{drop_all, drop_more}
-use Rattle.std.proofs.lemmas.Option.{same_Some, slice_get-get_or, slice_get_within, get_or_from_slice_get, none-some}
+use Rattle.std.proofs.lemmas.Option.{same_Some, slice_get_within, get_or_from_slice_get, none-some}
 use Rattle.handle_table.specs.Table.{IsInUse}
 use Rattle.flat_store.specs.Flat.{HasBytes, bytes_from, with_bytes}
 use Rattle.sub_heaps.specs.declared.objects.Object.{Object}
@@ -46,11 +46,6 @@ next_same ms i m got s now whole same is = ap (after_plan (drop (i + 1) ms)) is 
 -- after the last one the storage is what all lead to
 pub arrived : (ms : List Move) (i : ℕ) (s whole : Storage) → length ms ≤ i → after_plan (drop i ms) s ≡ whole → s ≡ whole
 arrived ms i s whole past same = ap (λ rest. after_plan rest s) (sym (drop_all i ms past)) ∙ same
-
--- there is a next one where the turn is one of the plan's
-pub not_past : (ms : List Move) (i : ℕ) → i < length ms → None ≡ slice_get ms i → ⊥
-not_past (m ∷ ms) i below none = none-some (get_or (m ∷ ms) i m) (none ∙ slice_get-get_or (m ∷ ms) i m below)
-not_past [] i below none = absurd (omega (arith, below))
 
 -- ---- one move
 

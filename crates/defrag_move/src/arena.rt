@@ -18,7 +18,7 @@ use arena_meaning::{Alloced, NotLive};
 use flat_store::{FIRST_ADDRESS, Flat, OutsideFlat};
 use handle_table::{PinWords, Table};
 use handle_words::{id, is_handle, make, offset};
-use move_plan::{Move, Pins, Plan};
+use move_plan::{Move, Pins};
 use std::alloc::Global;
 use std::marker::Model;
 use sub_heaps::Heaps;
@@ -175,19 +175,17 @@ impl Arena {
         }
     }
 
-    /// Makes the moves of a plan, in its order: each object takes its bytes along, and its id gets its new address.
-    pub fn apply(&mut self, plan: &Plan, pins: &Pins)
-        requires { AreLegal (is_pinned pins.now) self.old.heaps plan.now.moves }
-        ensures heaps { self.new.heaps ≡ after_moves plan.now.moves self.old.heaps }
-        ensures kept { KeepsObjects (is_pinned pins.now) plan.now.moves self.old self.new }
-        ensures after { self.new ≡ after_plan plan.now.moves self.old }
+    /// Makes moves, in their order: each object takes its bytes along, and its id gets its new address.
+    pub fn apply(&mut self, moves: &[Move], pins: &Pins)
+        requires { AreLegal (is_pinned pins.now) self.old.heaps moves.now }
+        ensures heaps { self.new.heaps ≡ after_moves moves.now self.old.heaps }
+        ensures kept { KeepsObjects (is_pinned pins.now) moves.now self.old self.new }
+        ensures after { self.new ≡ after_plan moves.now self.old }
         ensures consistent { IsConsistent self.new }
     {
         let _consistent = &self.heaps;
-        for turn in 0..plan.len() {
-            if let Some(next) = plan.get(turn) {
-                self.move_object(next);
-            }
+        for next in moves {
+            self.move_object(*next);
         }
     }
 

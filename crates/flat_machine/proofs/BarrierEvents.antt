@@ -342,7 +342,7 @@ module _ (code : LinearCode) where
     place_stands k None at t stage is = absurd cc
     place_stands k (Some c) at t stage is = stands_if c c.stage refl at.stands t stage is
 
-    all_stand : AllStand x.flow here.own
+    pub all_stand : AllStand x.flow here.own
     all_stand k stage is = by (leb_tells (length s.memory.threads) k) where
       by : ((nat_le (length s.memory.threads) k ≡ true) × (length s.memory.threads ≤ k)) ⊎ ((nat_le (length s.memory.threads) k ≡ false) × (k < length s.memory.threads)) → stages.stands x.flow stage ≡ true
       by (inl h) = let none : own_at here.own k ≡ None = own_at_past here.own k (omega (arith, h.1, length-stages_home s.memory.threads home)) in absurd (let bad : None ≡ Some stage = sym none ∙ is in cc)

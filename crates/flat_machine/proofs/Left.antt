@@ -63,3 +63,13 @@ one_most s word = by (is_live_start s word) where
 pub most_kept : (words : List ℕ) (s : Storage) → (without_words words s).heaps.most ≡ s.heaps.most
 most_kept [] s = refl
 most_kept (word ∷ words) s = most_kept words (without_word s word) ∙ one_most s word
+
+one_count : (s : Storage) (word : ℕ) → (without_word s word).heaps.count ≡ s.heaps.count
+one_count s word = by (is_live_start s word) where
+  by : (b : Bool) → (cond b (without_id s (id_of word)) s).heaps.count ≡ s.heaps.count
+  by true = refl
+  by false = refl
+
+pub count_kept : (words : List ℕ) (s : Storage) → (without_words words s).heaps.count ≡ s.heaps.count
+count_kept [] s = refl
+count_kept (word ∷ words) s = count_kept words (without_word s word) ∙ one_count s word

@@ -10,12 +10,15 @@ pub mod Pieces
 pub mod Printed
 pub mod Written
 pub mod Serves
+pub mod Counts
 pub mod Slid
+pub mod Evacuated
 pub mod Opened
 pub mod Acts
 pub mod Allowed
 pub mod ActEvents
 pub mod BarrierEvents
+pub mod EvacuationEvents
 pub mod Left
 pub mod Changing
 pub mod Rooms

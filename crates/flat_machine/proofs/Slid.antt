@@ -1,5 +1,5 @@
 -- The pins of a barrier, the moves that slide, and what they leave.
-use Rattle.std.proofs.Common.{◌≡◌, ℕ, zero, suc, ◌+◌, ◌≤◌, ◌⊎◌, ◌↔◌, Bool, true, false, eqb, ◌||◌, List, [], ◌∷◌, ◌++◌, length, take, map, Option, Some, None, Contains, refl, sym, ap, ◌∙◌, inl, inr, arith}
+use Rattle.std.proofs.Common.{◌≡◌, ℕ, zero, suc, ◌+◌, ◌≤◌, ◌⊎◌, ◌↔◌, Bool, true, false, eqb, ◌||◌, List, [], ◌∷◌, ◌++◌, length, take, map, Option, Some, None, Contains, refl, sym, ap, ◌∙◌, subst, inl, inr, arith}
 use Rattle.std.specs.Prelude.{flat_map, sum_by, count_by, nat_lt}
 use Rattle.ak_trace.specs.declared.entry.Entry.{Entry}
 use Rattle.std.specs.List.{list_any, range_with_len}
@@ -65,11 +65,23 @@ one_bool true false f g = sym (f refl)
 one_bool false true f g = g refl
 one_bool false false f g = refl
 
--- the pins are the places that words name
-pub pins_are : (pins : PinSet) (empty : ℕ → Bool) (places : List ℕ) → ((at : ℕ) → empty at ≡ false) → ((at : ℕ) → (is_pinned pins at ≡ true) ↔ ((empty at ≡ true) ⊎ Contains places at)) → is_pinned pins ≡ (λ at. list_any (λ p. eqb p at) places)
-pins_are pins empty places none members = λ i at. one_bool (is_pinned pins at) (list_any (λ p. eqb p at) places)
-    (λ is. elim ((members at).0 is) [ inl before ↦ absurd (let e = none at in cc) | inr now ↦ there places at now ])
-    (λ is. (members at).1 (inr (found places at is))) i
+-- the pins are these places
+pub pins_are : (pins : PinSet) (places : List ℕ) → ((at : ℕ) → (is_pinned pins at ≡ true) ↔ Contains places at) → is_pinned pins ≡ (λ at. list_any (λ p. eqb p at) places)
+pins_are pins places named = λ i at. one_bool (is_pinned pins at) (list_any (λ p. eqb p at) places) (λ is. there places at ((named at).0 is)) (λ is. (named at).1 (found places at is)) i
+
+-- those that words name, where none was pinned before
+pub only_named : (storage : Storage) (words named : List ℕ) (before now : Bool) (at : ℕ) → before ≡ false → words ≡ named → (now ≡ true) ↔ ((before ≡ true) ⊎ Contains (places_named storage words) at) → (now ≡ true) ↔ Contains (places_named storage named) at
+only_named storage words named before now at none same members = (
+  (λ is. subst (λ (ws : List ℕ). Contains (places_named storage ws) at) same (elim (members.0 is) [ inl old ↦ absurd (let e = sym none ∙ old in cc) | inr there ↦ there ])),
+  (λ there. members.1 (inr (subst (λ (ws : List ℕ). Contains (places_named storage ws) at) (sym same) there))),
+)
+
+-- the pins of a sweep are those of the state with all at home
+pub pinned_is : (code : LinearCode) (s : Shared) (home : List (Option Context)) (pins : PinSet) (count : ℕ) → count ≡ length s.memory.threads
+    → ((at : ℕ) → (is_pinned pins at ≡ true) ↔ Contains (places_named s.memory.storage (flat_map (handles_home code) (take count home))) at) → is_pinned pins ≡ pinned (image_of code s) (at_home s home)
+pinned_is code s home pins count all named =
+    pins_are pins (places_named s.memory.storage (flat_map (handles_home code) (take count home))) named
+    ∙ ap (λ (ws : List ℕ). λ (at : ℕ). list_any (λ p. eqb p at) (places_named s.memory.storage ws)) (ap (λ n. flat_map (handles_home code) (take n home)) all ∙ sym (handles_of_home code s s.memory.threads home))
 
 -- ---- limits
 
@@ -145,22 +157,17 @@ slid_by s moves pinned = record { memory = with_storage s.memory (after_plan mov
 
 pub parts_are : (s : Shared) (ms : List Move) (pinned : ℕ → Bool) (storage : Storage) (count objects bytes before after room : ℕ) → storage ≡ after_plan ms s.memory.storage → count ≡ counted (s.barriers.count + 1) → objects ≡ counted (s.barriers.objects + length ms) → bytes ≡ counted (s.barriers.bytes + sum_by (λ m. m.size) ms)
     → before ≡ extent_of s.memory.storage.heaps → after ≡ extent_of (after_moves ms s.memory.storage.heaps) → room ≡ room_of pinned (after_moves ms s.memory.storage.heaps)
-    → record { memory = record { storage = storage; output = s.memory.output; threads = s.memory.threads; leaving = s.memory.leaving }; output_limit = s.output_limit; made = s.made; barriers = record { count = count; objects = objects; bytes = bytes; last = Some (record { before = before; after = after; room = room }) } } ≡ slid_by s ms pinned
+    → record { memory = record { storage = storage; output = s.memory.output; threads = s.memory.threads; leaving = s.memory.leaving }; output_limit = s.output_limit; made = s.made; barriers = record { count = count; objects = objects; bytes = bytes; emptied = s.barriers.emptied; last = Some (record { before = before; after = after; room = room }) } } ≡ slid_by s ms pinned
 parts_are s ms pinned storage count objects bytes before after room p0 p1 p2 p3 p4 p5 p6 = λ i. record {
   memory = record { storage = p0 i; output = s.memory.output; threads = s.memory.threads; leaving = s.memory.leaving };
   output_limit = s.output_limit;
   made = s.made;
-  barriers = record { count = p1 i; objects = p2 i; bytes = p3 i; last = Some (record { before = p4 i; after = p5 i; room = p6 i }) };
+  barriers = record { count = p1 i; objects = p2 i; bytes = p3 i; emptied = s.barriers.emptied; last = Some (record { before = p4 i; after = p5 i; room = p6 i }) };
 }
 
-module _ (code : LinearCode) (s : Shared) (home : List (Option Context)) (pins empty : PinSet) (words : List ℕ) (ms : List Move) where
+module _ (code : LinearCode) (s : Shared) (home : List (Option Context)) (pins : PinSet) (ms : List Move) where
   abbrev storage : Storage
   storage = s.memory.storage
-
-  pub pinned_is : words ≡ flat_map (handles_home code) (take (length s.memory.threads) home) → ((at : ℕ) → is_pinned empty at ≡ false) → ((at : ℕ) → (is_pinned pins at ≡ true) ↔ ((is_pinned empty at ≡ true) ⊎ Contains (places_named storage words) at)) → is_pinned pins ≡ pinned (image_of code s) (at_home s home)
-  pinned_is words_are none members =
-      pins_are pins (is_pinned empty) (places_named storage words) none members
-      ∙ ap (λ (ws : List ℕ). λ (at : ℕ). list_any (λ p. eqb p at) (places_named storage ws)) (words_are ∙ sym (handles_of_home code s s.memory.threads home))
 
   module _ (pins_is : is_pinned pins ≡ pinned (image_of code s) (at_home s home)) (sound : IsSound storage.heaps) (slides : IsSlide (is_pinned pins) storage.heaps ms) where
     moves_is : ms ≡ sweep_moves (image_of code s) (at_home s home)

@@ -17,6 +17,7 @@ use Rattle.flat_meaning.specs.Allowed.{AreAllowed}
 use Rattle.flat_machine.specs.Acting.{choice_for, effect_of}
 use Rattle.flat_rules.specs.Lawful.{AreHome, IsFlat, IsOfRun}
 use Rattle.flat_machine.specs.Choices.{least_free, lowest_fit}
+use Rattle.flat_machine.specs.Clearing.{evacuation_of, cleared_by}
 use Rattle.flat_threads.specs.Belonging.{IsContextOf}
 use Rattle.flat_threads.specs.Contexts.{Context}
 use Rattle.flat_machine.specs.Machine.{machine_of}
@@ -70,6 +71,18 @@ pub record IsTheBarrier (code : LinearCode) (s : Shared) (home : List (Option Co
 abbrev pub BarrierIsItsEvent : Type 0
 BarrierIsItsEvent =
     (code : LinearCode) (s : Shared) (home : List (Option Context)) → IsSharedOf code s → IsSound s.memory.storage.heaps → All (IsOfRun (machine_of code) (IsContextOf code)) home → AreHome (machine_of code) s home → IsTheBarrier code s home
+
+-- ---- evacuation
+
+-- its event may come, and does what it does: where it has no move, that is nothing
+pub record IsTheEvacuation (code : LinearCode) (s : Shared) (home : List (Option Context)) : Type 0 where
+  pub allowed : AreAllowed (image_of code s) (evacuation_of (image_of code s) (at_home s home) ∷ []) (at_home s home)
+  pub after : at_home (cleared_by code s home).shared home ≡ after_all (image_of code s) (evacuation_of (image_of code s) (at_home s home) ∷ []) (at_home s home)
+
+-- where all contexts are at home, and no two objects overlap
+abbrev pub EvacuationIsItsEvent : Type 0
+EvacuationIsItsEvent =
+    (code : LinearCode) (s : Shared) (home : List (Option Context)) → IsSharedOf code s → IsSound s.memory.storage.heaps → All (IsOfRun (machine_of code) (IsContextOf code)) home → AreHome (machine_of code) s home → IsTheEvacuation code s home
 
 -- ---- the rules of a run
 

@@ -6,6 +6,7 @@ pub mod Turns
 pub mod Acting
 pub mod Slides
 pub mod Sweeping
+pub mod Clearing
 pub mod Reports
 pub mod Machine
 pub mod Replays

@@ -10,6 +10,7 @@ use Rattle.flat_rules.specs.Machine.{Machine, Progress, blank, works, steps}
 use Rattle.flat_threads.specs.Contexts.{Context, blank_context, own_image}
 use Rattle.flat_threads.specs.Going.{gone_on}
 use Rattle.flat_machine.specs.Acting.{acted_by}
+use Rattle.flat_machine.specs.Clearing.{cleared_by}
 use Rattle.flat_machine.specs.Readiness.{begun, is_ready, wants_room}
 use Rattle.flat_machine.specs.Shares.{Shared}
 use Rattle.flat_machine.specs.Sweeping.{swept_by}
@@ -34,6 +35,7 @@ machine_of code = record {
   local = gone_on code;
   act = acted_by code;
   barrier = swept_by code;
+  evacuation = cleared_by code;
   is_ready = λ s c. is_ready s.memory c.wait;
   waits = λ c. wants_room c.wait;
   threads = λ s. length s.memory.threads;

@@ -12,6 +12,7 @@ report_of s entries = let h = s.memory.storage.heaps in record {
   barriers = s.barriers.count;
   moved_objects = s.barriers.objects;
   moved_bytes = s.barriers.bytes;
+  emptied = s.barriers.emptied;
   live_objects = length h.objects;
   live_bytes = sum_by (λ o. o.size) h.objects;
   extent = extent_of h;

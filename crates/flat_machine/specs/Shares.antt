@@ -8,14 +8,16 @@ use Rattle.flat_meaning.specs.Memory.{Made, Memory}
 use Rattle.flat_threads.specs.Contexts.{IsProgram}
 use Rattle.run_report.specs.declared.report.LastBarrier.{LastBarrier}
 
--- what all barriers did: how many there were, the moves with their bytes, each up to 2^64 - 1, and the last one
+-- what all barriers and evacuations did: how many barriers there were, all moves with their bytes, each up to 2^64 - 1; how many sub-heaps the
+-- evacuations emptied, up to 2^32 - 1; and the last barrier
 pub record Barriers : Type 0 where
   pub count : ℕ
   pub objects : ℕ
   pub bytes : ℕ
+  pub emptied : ℕ
   pub last : Option LastBarrier
 
--- what threads share; how many bytes may be printed; the entries of the last act or barrier; and what barriers did
+-- what threads share; how many bytes may be printed; the entries of the last act, barrier or evacuation; and what barriers did
 pub record Shared : Type 0 where
   pub memory : Memory
   pub output_limit : ℕ
@@ -24,7 +26,7 @@ pub record Shared : Type 0 where
 
 -- no barrier yet
 abbrev pub no_barriers : Barriers
-no_barriers = record { count = 0; objects = 0; bytes = 0; last = None }
+no_barriers = record { count = 0; objects = 0; bytes = 0; emptied = 0; last = None }
 
 -- the limits under which the run is
 abbrev pub limits_of : Shared → Limits

@@ -135,7 +135,7 @@ counted n = min n (2 ^ 64 - 1)
 
 -- one barrier more
 abbrev pub with_barrier : Barriers → List Move → LastBarrier → Barriers
-with_barrier w moves last = record { count = counted (w.count + 1); objects = counted (w.objects + length moves); bytes = counted (w.bytes + sum_by (λ m. m.size) moves); last = Some last }
+with_barrier w moves last = record { count = counted (w.count + 1); objects = counted (w.objects + length moves); bytes = counted (w.bytes + sum_by (λ m. m.size) moves); emptied = w.emptied; last = Some last }
 
 -- what threads share behind a barrier, with its entries, told with worker 0
 abbrev pub shared_swept : Image Spot → Shared → (for_room : Bool) → State Spot → Shared

@@ -18,16 +18,16 @@ ghost use Rattle.flat_machine.specs.Shares.{IsSharedOf, image_of};
 ghost use Rattle.flat_machine.specs.Turns.{malloc_turned};
 ghost use Rattle.flat_machine.specs.inner.Acted.{IsStepOf};
 ghost use Rattle.flat_machine.specs.inner.Dones.{Does, Went, with_memory};
-ghost use Rattle.flat_machine.specs.Sweeping.{swept_by, waits_at_home};
+ghost use Rattle.flat_machine.specs.Sweeping.{counted, swept_by, waits_at_home};
 ghost use Rattle.flat_machine.specs.inner.Swept.{AreServed, IsServed, IsServedIf, handles_home, object_told, shared_slid};
 
 use crate::done::Done;
+use crate::pinning::pin_all;
 use crate::shared::Shared;
 use crate::turned::Turned;
 use ak_trace::{Entry, how, kind};
 use flat_threads::{Context, Program, Wait};
-use handle_table::PinWords;
-use move_plan::{Plan, room, slide};
+use move_plan::{Move, room, slide};
 use run_report::LastBarrier;
 use struct_ir::linear::InstrKind;
 use struct_ir::{Action, StepNode};
@@ -74,28 +74,13 @@ fn wants_room(home: &[Option<Context>]) -> bool
     false
 }
 
-// Gathers the handles in listed slots, of all calls of the threads at home.
-fn unite_all(program: &Program, home: &[Option<Context>], into: &mut PinWords)
-    requires contexts { All (IsOfRun (machine_of program.now) (IsContextOf program.now)) home.now }
-    requires room { length into.old.words + 1024 * length home.now ≤ into.old.room }
-    ensures united { into.new ≡ record into.old { words = into.old.words ++ flat_map (handles_home program.now) home.now } }
-    ensures few { length into.new.words ≤ length into.old.words + 1024 * length home.now }
-{
-    for place in home {
-        if let Some(ctx) = place {
-            ctx.pin(program, into);
-        }
-    }
-}
-
-// The bytes that a plan moves.
-fn bytes_of(plan: &Plan) -> u64
-    requires { length plan.now.moves < 2 ^ 32 }
-    ensures { result ≡ sum_by (λ m. m.size) plan.now.moves }
+// The bytes that moves move, or the greatest number where there are more.
+pub(crate) fn bytes_of(moves: &[Move]) -> u64
+    ensures { result ≡ counted (sum_by (λ m. m.size) moves.now) }
 {
     let mut sum: u64 = 0;
-    for next in plan.moves() {
-        sum += u64::from(next.size);
+    for next in moves {
+        sum = sum.saturating_add(u64::from(next.size));
     }
     sum
 }
@@ -155,19 +140,22 @@ impl Shared {
         requires home { AreHome (machine_of program.now) self.old home.now }
         ensures { self.new ≡ shared_slid program.now self.old home.now }
     {
-        self.words.clear();
-        unite_all(program, &home[..self.threads.len()], &mut self.words);
-        self.pins.clear();
-        self.arena.pins_of(&self.words, &mut self.pins);
+        pin_all(
+            &self.arena,
+            program,
+            &home[..self.threads.len()],
+            &mut self.words,
+            &mut self.pins,
+        );
         let before = self.arena.heaps().extent();
         self.plan.clear();
         slide(self.arena.heaps(), &self.pins, &mut self.plan);
-        self.arena.apply(&self.plan, &self.pins);
+        self.arena.apply(self.plan.moves(), &self.pins);
         self.barriers = self.barriers.saturating_add(1);
         self.moved_objects = self
             .moved_objects
             .saturating_add(u64::from(self.plan.len()));
-        self.moved_bytes = self.moved_bytes.saturating_add(bytes_of(&self.plan));
+        self.moved_bytes = self.moved_bytes.saturating_add(bytes_of(self.plan.moves()));
         self.last = Some(LastBarrier {
             before,
             after: self.arena.heaps().extent(),
@@ -224,7 +212,7 @@ impl Shared {
 }
 
 // An entry without local turns, told with worker 0.
-fn entry(kind: u8, thread: u32, how: u8, id: u32, place: u32) -> Entry
+pub(crate) fn entry(kind: u8, thread: u32, how: u8, id: u32, place: u32) -> Entry
     requires { thread < 64 }
     ensures { result ≡ record { kind = kind; worker = 0; thread = thread; how = how; local = 0; zero = 0; id = id; place = place } }
 {

@@ -9,6 +9,7 @@ ghost use Rattle.flat_machine.specs.lemmas.MachineIsFlat.{machine_is_flat};
 
 use crate::acting::act;
 use crate::barriers::barrier;
+use crate::evacuating::evacuation;
 use crate::ready::{begin, is_ready};
 use crate::shared::Shared;
 use ak_trace::Entry;
@@ -54,6 +55,10 @@ impl Flat<Program, Context> for Shared {
 
     fn barrier(&mut self, code: &Program, home: &mut [Option<Context>]) {
         barrier(self, code, home);
+    }
+
+    fn evacuation(&mut self, code: &Program, home: &[Option<Context>]) -> bool {
+        evacuation(self, code, home) > 0
     }
 
     fn is_ready(&self, _code: &Program, ctx: &Context) -> bool {

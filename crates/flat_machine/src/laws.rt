@@ -1,6 +1,6 @@
 //! Laws of the machine's calls, as contracts of functions that do nothing.
 
-ghost use Rattle.flat_machine.specs.Laws.{ActIsItsEvent, BarrierIsItsEvent, ChoicesAreLeast, MachineIsFlat};
+ghost use Rattle.flat_machine.specs.Laws.{ActIsItsEvent, BarrierIsItsEvent, ChoicesAreLeast, EvacuationIsItsEvent, MachineIsFlat};
 ghost use Rattle.flat_machine.specs.Limits.{JournalsFit};
 ghost use Rattle.flat_machine.specs.Nulls.{NullAtAct, NullAtBarrier};
 ghost use Rattle.flat_machine.specs.Readiness.{WaitsAreTold};
@@ -16,10 +16,12 @@ pub fn waits_are_told()
     ensures { WaitsAreTold }
 {}
 
-/// Act and barrier do events that may come: what is chosen at an allocation is free and fits, and what a listed slot names is not moved.
+/// Act, barrier and evacuation do events that may come: what is chosen at an allocation is free and fits, and what a listed slot names is not
+/// moved.
 pub fn calls_are_events()
     ensures act { ActIsItsEvent }
     ensures barrier { BarrierIsItsEvent }
+    ensures evacuation { EvacuationIsItsEvent }
 {}
 
 /// The machine is one that the rules of a run are of.

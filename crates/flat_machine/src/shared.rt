@@ -14,7 +14,7 @@ use flat_rules::Settings;
 use flat_store::FIRST_ADDRESS;
 use flat_threads::Program;
 use handle_table::PinWords;
-use move_plan::{Pins, Plan};
+use move_plan::{Move, Pins, Plan};
 use run_report::{LastBarrier, Report};
 use std::alloc::Global;
 use std::marker::Model;
@@ -31,7 +31,8 @@ const ENTRIES: usize = 66;
 // The words in listed slots: 64 threads of 1,024 slots.
 const PIN_WORDS: u32 = 65536;
 
-/// What threads share: objects and bytes, what was printed, and the threads; and what a barrier needs, in memory that is reserved once.
+/// What threads share: objects and bytes, what was printed, and the threads; and what a barrier and an evacuation need, in memory that is
+/// reserved once.
 #[derive(Drop)]
 pub struct Shared {
     pub(crate) arena: Arena,
@@ -42,14 +43,17 @@ pub struct Shared {
     pub(crate) barriers: u64,
     pub(crate) moved_objects: u64,
     pub(crate) moved_bytes: u64,
+    pub(crate) emptied: u32,
     pub(crate) last: Option<LastBarrier>,
     pub(crate) plan: Plan,
     pub(crate) pins: Pins,
     pub(crate) words: PinWords,
+    pub(crate) tails: Vec<u32>,
+    pub(crate) moves: Vec<Move>,
     pub(crate) leaving: Leaving,
 }
 
-// Clauses see all but what a barrier needs.
+// Clauses see all but what a barrier and an evacuation need.
 impl Model for Shared {
     ghost use Rattle.std.specs.Prelude.{map, vec_capacity, ◌≤◌, length};
     ghost use Rattle.arena_meaning.specs.Arena.{IsConsistent};
@@ -62,10 +66,10 @@ impl Model for Shared {
       memory = record { storage = s.arena; output = s.output.items; threads = map made_view s.threads.items; leaving = s.leaving };
       output_limit = s.output_limit;
       made = s.made.items;
-      barriers = record { count = s.barriers; objects = s.moved_objects; bytes = s.moved_bytes; last = s.last };
+      barriers = record { count = s.barriers; objects = s.moved_objects; bytes = s.moved_bytes; emptied = s.emptied; last = s.last };
     } };
 
-    ghost invariant = { λ s. IsKept s.arena s.output.items s.output_limit s.threads.items s.made.items s.plan s.pins s.words × (s.output_limit ≤ vec_capacity s.output) × (64 ≤ vec_capacity s.threads) × (66 ≤ vec_capacity s.made) };
+    ghost invariant = { λ s. IsKept s.arena s.output.items s.output_limit s.threads.items s.made.items s.plan s.pins s.words × (s.output_limit ≤ vec_capacity s.output) × (64 ≤ vec_capacity s.threads) × (66 ≤ vec_capacity s.made) × (s.arena.heaps.count ≤ vec_capacity s.tails) × (s.arena.heaps.most ≤ vec_capacity s.moves) };
 }
 
 impl Shared {
@@ -93,15 +97,18 @@ impl Shared {
             barriers: 0,
             moved_objects: 0,
             moved_bytes: 0,
+            emptied: 0,
             last: None,
             plan: Plan::with_room(alloc, s.ids)?,
             pins: Pins::with_room(alloc, PIN_WORDS)?,
             words: PinWords::with_room(alloc, PIN_WORDS)?,
+            tails: Vec::with_capacity(alloc, s.subheaps as usize)?,
+            moves: Vec::with_capacity(alloc, s.ids as usize)?,
             leaving: Leaving::none(alloc)?,
         })
     }
 
-    /// The entries of the last act or barrier, with worker 0.
+    /// The entries of the last act, barrier or evacuation, with worker 0.
     pub fn made(&self) -> &[Entry]
         ensures { result.now ≡ self.now.made }
     {
@@ -135,6 +142,7 @@ impl Shared {
             barriers: self.barriers,
             moved_objects: self.moved_objects,
             moved_bytes: self.moved_bytes,
+            emptied: self.emptied,
             live_objects,
             live_bytes,
             extent: heaps.extent(),
@@ -156,10 +164,13 @@ impl Shared {
             barriers: _,
             moved_objects: _,
             moved_bytes: _,
+            emptied: _,
             last: _,
             plan: _,
             pins: _,
             words: _,
+            tails: _,
+            moves: _,
             leaving: _,
         } = self;
         output

@@ -1,6 +1,6 @@
 -- Objects and table agree in each state that a journal leads to.
-use Rattle.std.proofs.Common.{◌≡◌, ℕ, ◌+◌, ◌<◌, List, [], ◌∷◌, length, replicate, set, Option, Some, None, refl, sym, ap, ◌∙◌, subst, arith, inl, inr}
-use Rattle.std.specs.Prelude.{◌⊎◌, count_by}
+use Rattle.std.proofs.Common.{◌≡◌, Bool, true, false, ℕ, ◌+◌, ◌<◌, List, [], ◌∷◌, length, replicate, set, Option, Some, None, refl, sym, ap, ◌∙◌, subst, arith, inl, inr}
+use Rattle.std.specs.Prelude.{◌⊎◌, All, count_by}
 use Rattle.ak_trace.specs.declared.entry.Entry.{Entry}
 use Rattle.std.proofs.lemmas.List.{length-replicate, length-set}
 use Rattle.arena_meaning.specs.Arena.{IsConsistent}
@@ -12,8 +12,8 @@ use Rattle.ak_trace.specs.declared.endings.End.{End}
 use Rattle.flat_meaning.specs.Local.{stop_at}
 use Rattle.flat_meaning.specs.Stages.{Stage}
 use Rattle.flat_rules.specs.Events.{Goes, on, back, away, most_local, turned_by}
-use Rattle.flat_rules.specs.Lawful.{IsOpened, Lives}
-use Rattle.flat_rules.specs.Machine.{Machine, steps}
+use Rattle.flat_rules.specs.Lawful.{AreHome, Clears, IsOfRun, IsOpened, Lives, Sweeps}
+use Rattle.flat_rules.specs.Machine.{Machine, cleared, steps, sweep}
 use Rattle.flat_rules.specs.Replays.{step, run}
 use Rattle.flat_rules.specs.Rules.{Rules}
 use Rattle.flat_rules.specs.States.{State, out, Mood, free, asked, homes_of, is_out, place_at, start}
@@ -22,11 +22,13 @@ use Rattle.flat_rules.specs.inner.Steps.{run_keeps, step_cases}
 use Rattle.flat_threads.specs.Belonging.{HasStopped, IsContextOf}
 use Rattle.flat_threads.specs.Contexts.{Context, own_image}
 use Rattle.flat_threads.specs.Going.{gone_on}
+use Rattle.flat_rules.proofs.Clearing.{home_on}
 use Rattle.world_rules.proofs.Invariant.{Invariant, keeps as invariant_keeps, moved, none_ends, starts}
 use Rattle.world_rules.proofs.MoveKeeps.{may_sweep, of_run}
 use Rattle.world_rules.proofs.Sits.{Moved, Sit, lives}
 use Rattle.flat_machine.specs.Acting.{acted_by, effect_if}
-use Rattle.flat_machine.specs.Laws.{IsTheBarrier, IsTheEvent, barrier_of, events_of}
+use Rattle.flat_machine.specs.Clearing.{cleared_by, evacuation_of}
+use Rattle.flat_machine.specs.Laws.{IsTheBarrier, IsTheEvacuation, IsTheEvent, barrier_of, events_of}
 use Rattle.flat_machine.specs.Machine.{machine_of, progress_of}
 use Rattle.flat_machine.specs.Shares.{Shared, IsSharedOf, image_of}
 use Rattle.flat_machine.specs.Sweeping.{at_home, swept_by}
@@ -34,6 +36,7 @@ use Rattle.flat_machine.specs.lemmas.Homes.{own_at_set}
 use Rattle.flat_machine.specs.lemmas.MachineIsFlat.{machine_is_flat}
 use Rattle.flat_machine.proofs.ActEvents.{act_is_its_event}
 use Rattle.flat_machine.proofs.BarrierEvents.{barrier_is_its_event}
+use Rattle.flat_machine.proofs.EvacuationEvents.{evacuation_is_its_event}
 use Rattle.flat_simulation.proofs.Barriers.{after_all_agrees}
 use Rattle.flat_threads.proofs.Settings.{same_stop}
 
@@ -86,6 +89,13 @@ module _ (code : LinearCode) (s : Shared) where
       (subst (λ (o : Option Stop). IsConsistent (effect_if (image_of code s) c.number s.memory (Some p.stage) o).memory.storage) (sym p.stopped)
       (effect_agrees agree c.number p.stage p.stop lives.made stopped))
 
+  -- ---- an evacuation
+
+  pub clear_agrees : (home : List (Option Context)) → IsTheEvacuation code s home → IsConsistent s.memory.storage → IsConsistent (cleared_by code s home).shared.memory.storage
+  clear_agrees home v agree =
+      subst (λ (st : events.State Spot). IsConsistent st.memory.storage) (sym v.after)
+      (after_all_agrees (image_of code s) (evacuation_of (image_of code s) (at_home s home) ∷ []) (at_home s home) agree v.allowed)
+
   -- ---- a barrier
 
   pub sweep_agrees : (home : List (Option Context)) → IsTheBarrier code s home → IsConsistent s.memory.storage → IsConsistent (swept_by code s home).shared.memory.storage
@@ -109,12 +119,43 @@ module _ (code : LinearCode) (rules : Rules) where
     sits : Sit m (IsContextOf code) x.shared None x.places
     sits = subst (λ (e : Option End). Sit m (IsContextOf code) x.shared e x.places) going held.each
 
-    -- where none is out a barrier is an event
-    pub barrier_here : count_by is_out x.places ≡ 0 → Agrees x → IsTheBarrier code x.shared (homes_of x.places)
-    barrier_here none agree =
-        barrier_is_its_event code x.shared (homes_of x.places) held.of_ agree.heaps
-        (of_run m (IsContextOf code) (IsSharedOf code) (machine_is_flat code) x.shared x.places held.of_ held.few sits)
-        (may_sweep m (IsContextOf code) (IsSharedOf code) (machine_is_flat code) x.shared x.places held.of_ held.few sits held.places none)
+    -- who is at home where none is out
+    pub all_here : All (IsOfRun m (IsContextOf code)) (homes_of x.places)
+    all_here = of_run m (IsContextOf code) (IsSharedOf code) (machine_is_flat code) x.shared x.places held.of_ held.few sits
+
+    module _ (none : count_by is_out x.places ≡ 0) where
+      home_here : AreHome m x.shared (homes_of x.places)
+      home_here = may_sweep m (IsContextOf code) (IsSharedOf code) (machine_is_flat code) x.shared x.places held.of_ held.few sits held.places none
+
+      clears_here : Clears m (IsSharedOf code) x.shared (cleared_by code x.shared (homes_of x.places))
+      clears_here = (machine_is_flat code).clears x.shared (homes_of x.places) held.of_ all_here home_here
+
+      -- what threads share behind an evacuation is that of the run, and who was at home is there
+      pub middle_of_run : (asks : Bool) → IsSharedOf code (cleared m asks x.shared (homes_of x.places)).shared
+      middle_of_run false = held.of_
+      middle_of_run true = clears_here.of_
+
+      middle_home : (asks : Bool) → AreHome m (cleared m asks x.shared (homes_of x.places)).shared (homes_of x.places)
+      middle_home false = home_here
+      middle_home true = home_on m (IsSharedOf code) (IsContextOf code) (machine_is_flat code) x.shared (homes_of x.places) home_here (cleared_by code x.shared (homes_of x.places)) clears_here
+
+      -- what a barrier does there
+      pub swept_here : (asks : Bool) → Sweeps m (IsSharedOf code) (IsContextOf code) (cleared m asks x.shared (homes_of x.places)).shared (homes_of x.places) (sweep m asks x.shared (homes_of x.places))
+      swept_here asks = (machine_is_flat code).sweeps (cleared m asks x.shared (homes_of x.places)).shared (homes_of x.places) (middle_of_run asks) all_here (middle_home asks)
+
+      module _ (agree : Agrees x) where
+        -- an evacuation is an event
+        pub evacuation_here : IsTheEvacuation code x.shared (homes_of x.places)
+        evacuation_here = evacuation_is_its_event code x.shared (homes_of x.places) held.of_ agree.heaps all_here home_here
+
+        pub middle_agrees : (asks : Bool) → IsConsistent (cleared m asks x.shared (homes_of x.places)).shared.memory.storage
+        middle_agrees false = agree
+        middle_agrees true = clear_agrees code x.shared (homes_of x.places) evacuation_here agree
+
+        -- and so is the barrier behind it
+        pub barrier_here : (asks : Bool) → IsTheBarrier code (cleared m asks x.shared (homes_of x.places)).shared (homes_of x.places)
+        barrier_here asks = let h : IsConsistent (cleared m asks x.shared (homes_of x.places)).shared.memory.storage = middle_agrees asks in
+            barrier_is_its_event code (cleared m asks x.shared (homes_of x.places)).shared (homes_of x.places) (middle_of_run asks) h.heaps all_here (middle_home asks)
 
     turned_agrees : (w t n k : ℕ) (mood : Mood) (c : Context) → place_at x.places t ≡ out w c n mood → (k ≡ 0) ⊎ (k ≡ most_local) → (g : Goes)
         → Agrees x → Agrees (turned_by m rules x w t (n + 1) mood (acted_by code x.shared (gone_on code k c)) g)
@@ -136,7 +177,8 @@ module _ (code : LinearCode) (rules : Rules) where
     cases w agree = record {
       begins = λ t c calm picked at. agree;
       leaves = λ t c calm picked at. agree;
-      sweeps = λ want none. sweep_agrees code x.shared (homes_of x.places) (barrier_here (same_number _ 0 none) agree) agree;
+      sweeps = λ want none. let quiet : count_by is_out x.places ≡ 0 = same_number _ 0 none in
+          sweep_agrees code (cleared m rules.evacuates x.shared (homes_of x.places)).shared (homes_of x.places) (barrier_here quiet agree rules.evacuates) (middle_agrees quiet agree rules.evacuates);
       works = λ t n c at. turned_agrees w t n most_local free c at (inr refl) _ agree;
       rests = λ t n c at. turned_agrees w t n 0 asked c at (inl refl) _ agree;
       comes = λ t n c at. agree;

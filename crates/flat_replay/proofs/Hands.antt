@@ -8,7 +8,7 @@ use Rattle.std.proofs.lemmas.Bool.Decides.{nat_tests}
 use Rattle.ak_trace.specs.declared.entry.Entry.{Entry}
 use Rattle.ak_trace.specs.Kinds as kind
 use Rattle.ak_trace.specs.declared.endings.End.{End}
-use Rattle.flat_rules.specs.Machine.{Machine, Acted, Turned, looked, stepped, got, got_null, made_thread, refused_thread, found_busy, wants_room, rested, ended, trapped, passed_limit, lacked_stack}
+use Rattle.flat_rules.specs.Machine.{Machine, cleared, sweep, Acted, Turned, looked, stepped, got, got_null, made_thread, refused_thread, found_busy, wants_room, rested, ended, trapped, passed_limit, lacked_stack}
 use Rattle.flat_rules.specs.Entries.{home_entry}
 use Rattle.flat_rules.specs.Draws.{after_draw}
 use Rattle.flat_rules.specs.States.{State, Place, unbegun, home, out, gone, Mood, free, asked, must, place_at, at_home, waits_at, homes_of, is_due, is_wanted, none_out, pick}
@@ -174,8 +174,9 @@ module _ {S K C : Type 0} (machine : K → Machine S C) (first : Whole S K C) (S
     seeks_tell : AllTell (calls.seeks machine X w) (find_event m first.settings s w)
     seeks_tell = two_tell (is_wanted m first.settings s) _ _ _ _
         (λ want. two_tell (none_out m first.settings s) _ (found.Nothing, [], X) _ _
-        (λ none. one_tells (calls.sweeps machine X w (m.barrier s.shared (homes_of s.places))) (barrier_event m first.settings s w (m.barrier s.shared (homes_of s.places)))
-        (record { entries = refl; hands_are = sym (swept_hands s.places (m.barrier s.shared (homes_of s.places)).homes) }))
+        (λ none. one_tells (calls.sweeps machine X w (cleared m first.settings.evacuates s.shared (homes_of s.places)).moved (sweep m first.settings.evacuates s.shared (homes_of s.places)))
+        (barrier_event m first.settings s w (cleared m first.settings.evacuates s.shared (homes_of s.places)).moved (sweep m first.settings.evacuates s.shared (homes_of s.places)))
+        (record { entries = refl; hands_are = sym (swept_hands s.places (sweep m first.settings.evacuates s.shared (homes_of s.places)).homes) }))
         (λ _. none_tells (found.Nothing, [], X)))
         (λ calm. picks_tell calm (pick m first.settings s) refl)
 

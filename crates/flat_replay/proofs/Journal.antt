@@ -1,6 +1,6 @@
 -- A journal that replays is of events: each entry by its kind.
 use Rattle.std.proofs.Common.{◌≡◌, ℕ, ◌+◌, ◌<◌, ◌==◌, Bool, true, false, cond, List, [], ◌∷◌, ◌++◌, length, map, set, Option, Some, None, refl, sym, ap, ◌∙◌, subst, arith, append_assoc, inl, inr}
-use Rattle.std.specs.Prelude.{◌⊎◌, count_by, slice_get}
+use Rattle.std.specs.Prelude.{◌⊎◌, All, count_by, slice_get}
 use Rattle.std.proofs.lemmas.List.{append-nil, length-map}
 use Rattle.std.proofs.lemmas.Option.{option_and_then_some}
 use Rattle.ak_trace.specs.declared.entry.Entry.{Entry}
@@ -9,7 +9,7 @@ use Rattle.struct_ir.specs.Linear.{Spot}
 use Rattle.ak_trace.specs.declared.endings.End.{End}
 use Rattle.flat_meaning.specs.Events as events
 use Rattle.flat_meaning.specs.Events.{Serve, after_serves, first_state, moved_state, serving_state}
-use Rattle.flat_meaning.specs.Image.{Limits, linear_image}
+use Rattle.flat_meaning.specs.Image.{Limits, limits_for, linear_image}
 use Rattle.flat_meaning.specs.Journals.{journal_picks}
 use Rattle.flat_meaning.specs.Local.{Came, goes_for}
 use Rattle.flat_meaning.specs.Memory.{Made, Memory}
@@ -17,29 +17,30 @@ use Rattle.flat_meaning.specs.Order.{picks_of_serves}
 use Rattle.flat_meaning.specs.Simulation.{IsLoadable}
 use Rattle.flat_meaning.specs.Stages.{Stage}
 use Rattle.flat_meaning.specs.Start.{served_ids}
-use Rattle.flat_rules.specs.Entries.{home_entry, out_entry}
+use Rattle.flat_rules.specs.Entries.{home_entry, out_entry, sweep_entries}
 use Rattle.flat_rules.specs.Events.{Event, barrier_event, most_local, turn_event}
-use Rattle.flat_rules.specs.Lawful.{Lives, Sweeps}
-use Rattle.flat_rules.specs.Machine.{Machine}
+use Rattle.flat_rules.specs.Lawful.{IsOfRun, Lives, Sweeps}
+use Rattle.flat_rules.specs.Machine.{Machine, cleared, sweep}
 use Rattle.flat_rules.specs.Replays.{run, settled, step}
 use Rattle.flat_rules.specs.declared.settings.Settings.{Settings}
 use Rattle.flat_rules.specs.Rules.{Rules, rules_of}
-use Rattle.flat_rules.specs.States.{Place, unbegun, home, out, State, Mood, free, asked, must, homes_of, is_out, place_at, start}
+use Rattle.flat_rules.specs.States.{Place, unbegun, home, out, State, Mood, free, asked, must, homes_of, is_out, place_at, start, waits_for_room}
 use Rattle.flat_rules.specs.inner.Cases.{Cases, Holds, event_holds, same_number}
 use Rattle.flat_rules.specs.inner.Steps.{run_keeps, step_cases}
 use Rattle.flat_threads.specs.Belonging.{IsContextOf}
 use Rattle.flat_threads.specs.Contexts.{Context, IsProgram}
 use Rattle.flat_threads.specs.Going.{came_from, gone_on, stopped_at}
 use Rattle.world_rules.proofs.Invariant.{moved, none_ends}
-use Rattle.world_rules.proofs.MoveKeeps.{may_sweep, of_run}
 use Rattle.world_rules.proofs.Sits.{Moved, Sit, SitsAt, lives}
 use Rattle.flat_machine.specs.Acting.{acted_by}
+use Rattle.flat_machine.specs.Clearing as clearing
+use Rattle.flat_machine.specs.Clearing.{cleared_state, evacuation_of, moves_some, shared_cleared}
 use Rattle.flat_machine.specs.Laws.{IsTheBarrier, barrier_of}
 use Rattle.flat_machine.specs.Machine.{machine_of}
 use Rattle.flat_machine.specs.Readiness.{begun, stage_of_made}
-use Rattle.flat_machine.specs.Shares.{Shared, IsSharedOf, image_of}
+use Rattle.flat_machine.specs.Shares.{Shared, IsSharedOf, image_of, limits_of}
 use Rattle.flat_machine.specs.Start.{first_shared, settings_limits}
-use Rattle.flat_machine.specs.Sweeping.{at_home, stage_home, stage_or, stages_home, sweep_moves, sweep_serves, swept_by}
+use Rattle.flat_machine.specs.Sweeping.{at_home, stage_home, stage_or, stages_home, served_of, sweep_moves, sweep_serves, swept_by}
 use Rattle.flat_machine.specs.lemmas.Homes.{own_at_home}
 use Rattle.flat_machine.specs.lemmas.Lawful.{blank_stage}
 use Rattle.flat_machine.specs.lemmas.MachineIsFlat.{machine_is_flat}
@@ -50,11 +51,11 @@ use Rattle.flat_replay.specs.Ids.{ids_told}
 use Rattle.flat_replay.specs.Journals.{IsOfEvents, context_in}
 use Rattle.flat_replay.specs.Laws.{AJournalIsOfEvents}
 use Rattle.flat_replay.proofs.Barriers.{opened}
-use Rattle.flat_replay.proofs.Consistent.{Good, all_good, barrier_here, good_keeps}
-use Rattle.flat_replay.proofs.Doings.{SameHeaps, more_heaps, served_heaps}
+use Rattle.flat_replay.proofs.Consistent.{Good, all_good, all_here, barrier_here, evacuation_here, good_keeps, middle_of_run, swept_here}
+use Rattle.flat_replay.proofs.Doings.{SameHeaps, more_heaps, same_heaps, served_heaps}
 use Rattle.flat_replay.proofs.Entries.{same_is, serves_attempts, serves_ids, serves_picks}
 use Rattle.flat_replay.proofs.LocalTurns.{GoesAlone, goes_alone_to}
-use Rattle.flat_replay.proofs.Segments.{Comes, none_come}
+use Rattle.flat_replay.proofs.Segments.{Comes, joins, none_come}
 use Rattle.flat_threads.proofs.Settings.{local_ignores_settings}
 use Rattle.flat_replay.proofs.Serving.{all_say, from_first, serve_pick, stages_of_run}
 use Rattle.flat_replay.proofs.Stages.{all_after, all_home, context_at, map-set, stages_same}
@@ -170,47 +171,110 @@ module _ (code : LinearCode) (rules : Rules) where
       abbrev homes : List (Option Context)
       homes = homes_of x.places
 
+      all : All (IsOfRun m (IsContextOf code)) (homes_of x.places)
+      all = all_here code rules x good.held going
+
+      -- what threads share where the barrier's own moves begin
+      abbrev mid : Shared
+      mid = (cleared m rules.evacuates x.shared (homes_of x.places)).shared
+
       abbrev here : events.State Spot
-      here = at_home x.shared (homes_of x.places)
+      here = at_home (cleared m rules.evacuates x.shared (homes_of x.places)).shared (homes_of x.places)
 
       abbrev slid : events.State Spot
-      slid = serving_state (moved_state (sweep_moves (image_of code x.shared) (at_home x.shared (homes_of x.places))) (at_home x.shared (homes_of x.places)))
+      slid = serving_state (moved_state (sweep_moves (image_of code mid) here) here)
 
-      here_is : here ≡ standing_in x
-      here_is = λ i. record { memory = x.shared.memory; own = stages_home x.shared.memory.threads (sym (all_home x.places quiet) i); end = None }
+      home_is : at_home x.shared (homes_of x.places) ≡ standing_in x
+      home_is = λ i. record { memory = x.shared.memory; own = stages_home x.shared.memory.threads (sym (all_home x.places quiet) i); end = None }
 
-      the_barrier : IsTheBarrier code x.shared homes
-      the_barrier = barrier_here code rules x good.held going quiet good.agrees
+      the_barrier : IsTheBarrier code mid homes
+      the_barrier = barrier_here code rules x good.held going quiet good.agrees rules.evacuates
 
-      swept : Sweeps m (IsSharedOf code) (IsContextOf code) x.shared homes
-      swept = (machine_is_flat code).sweeps x.shared homes good.held.of_
-          (of_run m (IsContextOf code) (IsSharedOf code) (machine_is_flat code) x.shared x.places good.held.of_ good.held.few sits)
-          (may_sweep m (IsContextOf code) (IsSharedOf code) (machine_is_flat code) x.shared x.places good.held.of_ good.held.few sits good.held.places quiet)
+      swept : Sweeps m (IsSharedOf code) (IsContextOf code) mid homes (sweep m rules.evacuates x.shared homes)
+      swept = swept_here code rules x good.held going quiet rules.evacuates
+
+      of_mid : IsSharedOf code mid
+      of_mid = middle_of_run code rules x good.held going quiet rules.evacuates
+
+      -- the evacuation is an event, at which nobody is served
+      pub cleared_comes : (on : Bool) → Comes (image_of code x.shared) (at_home x.shared (homes_of x.places)) (at_home (cleared m on x.shared (homes_of x.places)).shared (homes_of x.places)) [] (λ turns. []) []
+      cleared_comes false = none_come (image_of code x.shared) (at_home x.shared (homes_of x.places))
+      cleared_comes true =
+          let v = evacuation_here code rules x good.held going quiet good.agrees in
+          record { events = evacuation_of (image_of code x.shared) (at_home x.shared (homes_of x.places)) ∷ []; allowed = v.allowed; after = sym v.after; order = refl; attempts = λ turns. refl; ids = refl }
+
+      -- its limits are those of the run
+      cleared_heaps : (on : Bool) → SameHeaps x.shared.memory (cleared m on x.shared (homes_of x.places)).shared.memory
+      cleared_heaps false = same_heaps x.shared.memory
+      cleared_heaps true = by (moves_some (clearing.evacuation_here (image_of code x.shared) (at_home x.shared (homes_of x.places))))
+        where
+          by : (moved : Bool) → SameHeaps x.shared.memory (shared_cleared (image_of code x.shared) x.shared (at_home x.shared (homes_of x.places)) moved).memory
+          by false = same_heaps x.shared.memory
+          by true =
+              let kept = plan_keeps (clearing.evacuation_here (image_of code x.shared) (at_home x.shared (homes_of x.places))).moves x.shared.memory.storage in
+              let between : Memory = (serving_state (moved_state (clearing.evacuation_here (image_of code x.shared) (at_home x.shared (homes_of x.places))).moves (at_home x.shared (homes_of x.places)))).memory in
+              more_heaps x.shared.memory between (cleared_state (image_of code x.shared) (at_home x.shared (homes_of x.places))).memory (record { count = kept.0; size = kept.1; most = kept.2 }) (served_heaps between)
+
+      output_same : (on : Bool) → (cleared m on x.shared (homes_of x.places)).shared.output_limit ≡ x.shared.output_limit
+      output_same false = refl
+      output_same true = by (moves_some (clearing.evacuation_here (image_of code x.shared) (at_home x.shared (homes_of x.places))))
+        where
+          by : (moved : Bool) → (shared_cleared (image_of code x.shared) x.shared (at_home x.shared (homes_of x.places)) moved).output_limit ≡ x.shared.output_limit
+          by false = refl
+          by true = refl
+
+      pub limits_same : limits_of mid ≡ limits_of x.shared
+      limits_same =
+          let h : SameHeaps x.shared.memory mid.memory = cleared_heaps rules.evacuates in
+          λ i. limits_for (output_same rules.evacuates i) (h.count i) (h.size i) (h.most i)
 
       abbrev serves : List Serve
-      serves = sweep_serves (image_of code x.shared) (at_home x.shared (homes_of x.places))
+      serves = sweep_serves (image_of code mid) here
 
-      served : (picks_of_serves (image_of code x.shared) serves slid ≡ map serve_pick serves) × SameHeaps slid.memory (after_serves (image_of code x.shared) serves slid).memory
-      served = all_say code program x.shared here.own (length here.own)
-          (stages_of_run code x.shared.memory.threads homes good.held.of_.functions (of_run m (IsContextOf code) (IsSharedOf code) (machine_is_flat code) x.shared x.places good.held.of_ good.held.few sits))
-          (length here.own) 0 slid (omega arith) (from_first code program x.shared here.own (length here.own) (stages_of_run code x.shared.memory.threads homes good.held.of_.functions (of_run m (IsContextOf code) (IsSharedOf code) (machine_is_flat code) x.shared x.places good.held.of_ good.held.few sits)) slid refl refl refl)
+      served : (picks_of_serves (image_of code mid) serves slid ≡ map serve_pick serves) × SameHeaps slid.memory (after_serves (image_of code mid) serves slid).memory
+      served = all_say code program mid here.own (length here.own)
+          (stages_of_run code mid.memory.threads homes of_mid.functions all)
+          (length here.own) 0 slid (omega arith) (from_first code program mid here.own (length here.own) (stages_of_run code mid.memory.threads homes of_mid.functions all) slid refl refl refl)
 
-      sweeps : let v = barrier_event m rules x w (m.barrier x.shared homes) in Goes_on code x v.after v.entries
+      barrier_comes : Comes (image_of code mid) here (at_home (swept_by code mid homes).shared (swept_by code mid homes).homes) (map serve_pick serves) (λ turns. []) (served_ids serves)
+      barrier_comes = record { events = barrier_of (image_of code mid) here ∷ []; allowed = the_barrier.allowed; after = sym the_barrier.after; order = append-nil _ ∙ served.0; attempts = λ turns. refl; ids = append-nil _ }
+
+      both_come : Comes (image_of code x.shared) (standing_in x) (at_home (swept_by code mid homes).shared (swept_by code mid homes).homes) (map serve_pick serves) (λ turns. []) (served_ids serves)
+      both_come =
+          subst (λ (z : events.State Spot). Comes (image_of code x.shared) z (at_home (swept_by code mid homes).shared (swept_by code mid homes).homes) (map serve_pick serves) (λ turns. []) (served_ids serves)) home_is
+          (joins (image_of code x.shared) (at_home x.shared (homes_of x.places)) here (at_home (swept_by code mid homes).shared (swept_by code mid homes).homes) [] (map serve_pick serves) (λ turns. []) (λ turns. []) [] (served_ids serves) (cleared_comes rules.evacuates)
+          (subst (λ (limits : Limits). Comes (linear_image code limits) here (at_home (swept_by code mid homes).shared (swept_by code mid homes).homes) (map serve_pick serves) (λ turns. []) (served_ids serves)) limits_same barrier_comes))
+
+      -- an evacuation's entry tells of no turn and of no id
+      entries_picks : (moved : Bool) → journal_picks (sweep_entries w moved (waits_for_room m rules x) (map served_of serves)) ≡ map serve_pick serves
+      entries_picks true = serves_picks w serves
+      entries_picks false = serves_picks w serves
+
+      entries_attempts : (moved : Bool) (turns : ℕ) → attempts_from turns (sweep_entries w moved (waits_for_room m rules x) (map served_of serves)) ≡ []
+      entries_attempts true turns = serves_attempts w serves ((turns + 0) + 0)
+      entries_attempts false turns = serves_attempts w serves (turns + 0)
+
+      entries_ids : (moved : Bool) → ids_told (sweep_entries w moved (waits_for_room m rules x) (map served_of serves)) ≡ served_ids serves
+      entries_ids true = serves_ids w serves
+      entries_ids false = serves_ids w serves
+
+      sweeps : let v = barrier_event m rules x w (cleared m rules.evacuates x.shared homes).moved (sweep m rules.evacuates x.shared homes) in Goes_on code x v.after v.entries
       sweeps =
-          let b = swept_by code x.shared homes in
-          let kept = plan_keeps (sweep_moves (image_of code x.shared) here) x.shared.memory.storage in
+          let b = swept_by code mid homes in
+          let moved : Bool = (cleared m rules.evacuates x.shared homes).moved in
+          let kept = plan_keeps (sweep_moves (image_of code mid) here) mid.memory.storage in
           record {
             state = at_home b.shared b.homes;
             picks = map serve_pick serves;
             tries = λ turns. [];
             given = served_ids serves;
-            comes = subst (λ (z : events.State Spot). Comes (image_of code x.shared) z (at_home b.shared b.homes) (map serve_pick serves) (λ turns. []) (served_ids serves)) here_is
-                (record { events = barrier_of (image_of code x.shared) here ∷ []; allowed = the_barrier.allowed; after = sym the_barrier.after; order = append-nil _ ∙ served.0; attempts = λ turns. refl; ids = append-nil _ });
-            order = sym (serves_picks w serves);
-            attempts = λ turns. sym (serves_attempts w serves (turns + 0));
-            ids = sym (serves_ids w serves);
+            comes = both_come;
+            order = sym (entries_picks moved);
+            attempts = λ turns. sym (entries_attempts moved turns);
+            ids = sym (entries_ids moved);
             stands = record { memory = refl; ending = sym going; stages = λ none. ap (stages_home b.shared.memory.threads) (sym (all_after code x.places b.homes swept.kept quiet)) };
-            same = let before : Memory = (after_serves (image_of code x.shared) serves slid).memory in same_limits x.shared.output_limit x.shared.memory b.shared.memory (more_heaps x.shared.memory before b.shared.memory (more_heaps x.shared.memory slid.memory before (record { count = kept.0; size = kept.1; most = kept.2 }) served.1) (served_heaps before));
+            same = let before : Memory = (after_serves (image_of code mid) serves slid).memory in
+                same_limits mid.output_limit mid.memory b.shared.memory (more_heaps mid.memory before b.shared.memory (more_heaps mid.memory slid.memory before (record { count = kept.0; size = kept.1; most = kept.2 }) served.1) (served_heaps before)) ∙ limits_same;
           }
 
     -- ---- each event

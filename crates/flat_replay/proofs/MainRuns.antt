@@ -12,6 +12,7 @@ use Rattle.flat_rules.specs.Rules.{Rules}
 use Rattle.flat_rules.specs.States.{State, out, Mood, free, asked, homes_of, is_out, place_at, start}
 use Rattle.flat_rules.specs.inner.Cases.{Cases, Holds, event_holds, same_number, same_refl}
 use Rattle.flat_rules.specs.inner.Steps.{run_keeps, step_cases}
+use Rattle.flat_rules.proofs.Clearing.{sweeps_on}
 use Rattle.world_rules.proofs.Invariant.{Invariant, keeps as invariant_keeps, moved, none_ends, starts}
 use Rattle.world_rules.proofs.MoveKeeps.{may_sweep, of_run}
 use Rattle.world_rules.proofs.Sits.{Moved, Sit, SitsAt, left}
@@ -143,7 +144,7 @@ module _ {S C : Type 0} (m : Machine S C) (SharedOf : S → Type 0) (ContextOf :
       leaves = λ t c calm picked at h. main;
       sweeps = λ want none h.
           let quiet : count_by is_out x.places ≡ 0 = same_number _ 0 none in
-          let b = flat.sweeps x.shared (homes_of x.places) i.of_ (of_run m ContextOf SharedOf flat x.shared x.places i.of_ i.few sits) (may_sweep m ContextOf SharedOf flat x.shared x.places i.of_ i.few sits i.places quiet) in
+          let b = sweeps_on m SharedOf ContextOf flat rules.evacuates x.shared (homes_of x.places) i.of_ (of_run m ContextOf SharedOf flat x.shared x.places i.of_ i.few sits) (may_sweep m ContextOf SharedOf flat x.shared x.places i.of_ i.few sits i.places quiet) in
           b.ends 0 ∙ main;
       works = λ t n c at. after_turn t n most_local c free at (inr refl);
       rests = λ t n c at. after_turn t n 0 c asked at (inl refl);

@@ -19,12 +19,13 @@ use Rattle.flat_meaning.specs.Order.{order_of, pick}
 use Rattle.flat_rules.specs.declared.settings.Settings.{Settings}
 use Rattle.flat_rules.specs.Entries.{turn_entry}
 use Rattle.flat_rules.specs.Events.{Event, most_local, goes, turn_event, turned_by}
-use Rattle.flat_rules.specs.Machine.{Turned}
+use Rattle.flat_rules.specs.Machine.{Turned, cleared}
 use Rattle.flat_rules.specs.Replays.{step}
 use Rattle.flat_rules.specs.Rules.{Rules, rules_of}
-use Rattle.flat_rules.specs.States.{Mood, free, asked, State, out, place_at}
+use Rattle.flat_rules.specs.States.{Mood, free, asked, State, out, homes_of, place_at, waits_for_room}
 use Rattle.flat_rules.specs.inner.Cases.{Cases, Holds, event_holds}
 use Rattle.flat_rules.specs.inner.Steps.{step_cases, same_kind}
+use Rattle.flat_rules.proofs.Spares.{sweep_first}
 use Rattle.flat_threads.specs.Contexts.{Context, IsProgram}
 use Rattle.flat_threads.specs.Going.{gone_on, stopped_at}
 use Rattle.flat_machine.specs.Acting.{acted_by, effect_if}
@@ -71,7 +72,7 @@ module _ (code : LinearCode) (rules : Rules) (x : State Shared Context) (w : ℕ
   turns_if = record {
     begins = λ t c calm picked at. other _ _ [] kind.out refl (λ e. cc e);
     leaves = λ t c calm picked at. other _ _ [] kind.out refl (λ e. cc e);
-    sweeps = λ want none. other _ _ _ kind.barrier refl (λ e. cc e);
+    sweeps = λ want none d ds same at. absurd (let bad : kind.barrier ≡ kind.turn = sym (sweep_first w (cleared (machine_of code) rules.evacuates x.shared (homes_of x.places)).moved (waits_for_room (machine_of code) rules x) _ d ds same) ∙ at in cc bad);
     works = λ t n c at d ds e k. record { thread = t; count = n; context = c; mood = free; there = at; bound = inr refl; is = refl };
     rests = λ t n c at d ds e k. record { thread = t; count = n; context = c; mood = asked; there = at; bound = inl refl; is = refl };
     comes = λ t n c at. other _ _ [] kind.home refl (λ e. cc e);

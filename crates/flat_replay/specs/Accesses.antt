@@ -1,7 +1,8 @@
 -- What the steps of a journal read and write, entry by entry: of its own turns, in the states that its replay has there.
-use Rattle.std.specs.Prelude.{◌≡◌, ℕ, true, List, [], ◌∷◌, ◌++◌, All, replicate, set, Some, None}
+use Rattle.std.specs.Prelude.{◌≡◌, ◌≢◌, ℕ, true, List, [], ◌∷◌, ◌++◌, All, replicate, set, Some, None}
 use Rattle.ak_trace.specs.declared.endings.End.TheVariants as ends
 use Rattle.ak_trace.specs.declared.entry.Entry.{Entry}
+use Rattle.ak_trace.specs.Hows as how
 use Rattle.ak_trace.specs.Kinds as kind
 use Rattle.ak_words.specs.Prefix.{IsPrefix}
 use Rattle.block_store.specs.declared.values.Answer.TheVariants as answers
@@ -33,16 +34,21 @@ use Rattle.flat_meaning.specs.Words.{Words}
 use Rattle.flat_rules.specs.declared.settings.Settings.{Settings}
 use Rattle.flat_rules.specs.Events.{most_local}
 use Rattle.flat_rules.specs.Replays.{step}
+use Rattle.flat_rules.specs.Replays as rules
 use Rattle.flat_rules.specs.Rules.{rules_of}
 use Rattle.flat_rules.specs.States.{Mood, free, asked, must, State, out, place_at, homes_of, none_out}
+use Rattle.flat_rules.specs.States as states
 use Rattle.flat_threads.specs.Contexts.{Context}
 use Rattle.flat_threads.specs.Going.{gone_on}
+use Rattle.world_rules.specs.Journals.{IsBehind}
 use Rattle.flat_machine.specs.Laws.{events_of}
 use Rattle.flat_machine.specs.Machine.{machine_of}
 use Rattle.flat_machine.specs.Replays.{replay}
 use Rattle.flat_machine.specs.Shares.{Shared, image_of}
+use Rattle.flat_machine.specs.Start.{first_shared, settings_limits}
 use Rattle.flat_machine.specs.Sweeping.{at_home, sweep_moves, sweep_serves}
 use Rattle.flat_simulation.specs.LinearSteps.{HasBegun, HasStack, PrintsPast, Enters, StepTouches}
+use Rattle.flat_replay.specs.Barriers.{middle}
 use Rattle.flat_replay.specs.Ids.{ids_told}
 use Rattle.flat_replay.specs.Journals.{stages_in}
 
@@ -58,9 +64,9 @@ bound_of free = most_local
 bound_of asked = 0
 bound_of must = 0
 
--- all threads at home, behind a barrier's moves, where it begins to serve
-abbrev pub swept_first : LinearCode → State Shared Context → events.State Spot
-swept_first code x = let s = at_home x.shared (homes_of x.places) in serving_state (moved_state (sweep_moves (image_of code x.shared) s) s)
+-- all threads at home, behind a barrier's moves, where it begins to serve and threads shared this before the moves
+abbrev pub swept_first : LinearCode → Shared → State Shared Context → events.State Spot
+swept_first code shared x = let s = at_home shared (homes_of x.places) in serving_state (moved_state (sweep_moves (image_of code shared) s) s)
 
 -- ---- a step in a state
 
@@ -130,18 +136,21 @@ TurnStays p code s log e = TurnOf code s log e (λ picks y moved choice stage. U
 
 -- ---- an entry of a barrier
 
--- what the journal leads to, where no thread is out; and of each allocation that is then served, behind the moves and the allocations before
--- it, by which thread it waits, and what is claimed of it, behind the turns so far
+-- what the journal leads to up to the entry or its evacuation, where no thread is out; and of each allocation that is then served, behind
+-- the moves and the allocations before it, by which thread it waits, and what is claimed of it, behind the turns so far
 pub record ServesOf (code : LinearCode) (s : Settings) (log : List Entry) (e : Entry) (Claim : List Pick → (given : List ℕ) → Image Spot → events.State Spot → Serve → Thread Spot Words → Type 0) : Type 0 where
+  pub front : List Entry
+  pub behind : IsBehind front log e
   pub here : State Shared Context
-  pub leads : replay code s log ≡ Some here
+  pub leads : replay code s front ≡ Some here
   pub alone : none_out (machine_of code) (rules_of s) here ≡ true
   pub next : State Shared Context
-  pub goes : step (machine_of code) (rules_of s) here e ≡ Some next
-  pub memory : let y = image_of code here.shared in next.shared.memory ≡ (served_state (after_serves y (sweep_serves y (at_home here.shared (homes_of here.places))) (swept_first code here))).memory
-  pub keeps : let y = image_of code here.shared in (vs : List Serve) (v : Serve) (us : List Serve) → sweep_serves y (at_home here.shared (homes_of here.places)) ≡ vs ++ v ∷ us
-      → (q : Thread Spot Words) × (own_at (after_serves y vs (swept_first code here)).own v.thread ≡ Some (waiting q))
-      × Claim (journal_picks log ++ picks_of_serves y vs (swept_first code here)) (ids_told log ++ served_ids vs) y (served_state (after_serves y vs (swept_first code here))) v q
+  pub goes : rules.run (machine_of code) (rules_of s) (log ++ e ∷ []) (states.start (machine_of code) (rules_of s) (first_shared code (settings_limits s))) ≡ Some next
+  pub memory : let shared = middle code s here in let y = image_of code shared in
+      next.shared.memory ≡ (served_state (after_serves y (sweep_serves y (at_home shared (homes_of here.places))) (swept_first code shared here))).memory
+  pub keeps : let shared = middle code s here in let y = image_of code shared in (vs : List Serve) (v : Serve) (us : List Serve) → sweep_serves y (at_home shared (homes_of here.places)) ≡ vs ++ v ∷ us
+      → (q : Thread Spot Words) × (own_at (after_serves y vs (swept_first code shared here)).own v.thread ≡ Some (waiting q))
+      × Claim (journal_picks front ++ picks_of_serves y vs (swept_first code shared here)) (ids_told front ++ served_ids vs) y (served_state (after_serves y vs (swept_first code shared here))) v q
 
 -- unless a turn so far broke a rule, each stays
 abbrev pub ServesStay : Ir → LinearCode → Settings → List Entry → Entry → Type 0
@@ -149,7 +158,7 @@ ServesStay p code s log e = ServesOf code s log e (λ picks given y served v q. 
 
 -- ---- a journal
 
--- each entry of a turn, and each of a barrier. (A Look reads a word of the table and no byte: its event has no turn here.)
+-- each entry of a turn, and each of a barrier, which an evacuation's is not. (A Look reads a word of the table and no byte: its event has no turn here.)
 pub record AccessesKeep (p : Ir) (code : LinearCode) (s : Settings) (log : List Entry) : Type 0 where
   pub turns : (front : List Entry) (e : Entry) (more : List Entry) → log ≡ front ++ e ∷ more → e.kind ≡ kind.turn → TurnStays p code s front e
-  pub served : (front : List Entry) (e : Entry) (more : List Entry) → log ≡ front ++ e ∷ more → e.kind ≡ kind.barrier → ServesStay p code s front e
+  pub served : (front : List Entry) (e : Entry) (more : List Entry) → log ≡ front ++ e ∷ more → e.kind ≡ kind.barrier → e.how ≢ how.evacuation → ServesStay p code s front e

@@ -1,9 +1,10 @@
 -- Journals of code of which it isn't known that each turn takes some answer: what they say up to the first operation on a value of a kind that it
 -- doesn't take.
-use Rattle.std.specs.Prelude.{◌≡◌, ℕ, ◌<◌, ◌⊎◌, List, ◌∷◌, ◌++◌, Any, length, take, Option, Some}
+use Rattle.std.specs.Prelude.{◌≡◌, ◌≢◌, ℕ, ◌<◌, ◌⊎◌, List, ◌∷◌, ◌++◌, Any, length, take, Option, Some}
 use Rattle.ak_trace.specs.declared.endings.End.{End}
 use Rattle.ak_trace.specs.declared.endings.End.TheVariants as ends
 use Rattle.ak_trace.specs.declared.entry.Entry.{Entry}
+use Rattle.ak_trace.specs.Hows as how
 use Rattle.ak_trace.specs.Kinds as kind
 use Rattle.block_store.specs.declared.values.Answer.{Answer}
 use Rattle.block_store.specs.Runs as runs
@@ -71,7 +72,7 @@ abbrev pub ServesStayUpToAKind : Ir → LinearCode → Settings → List Entry �
 ServesStayUpToAKind p code s log e = ServesOf code s log e
     (λ picks given y served v q. UpToAKind p picks (λ u. StandsBy y p given u served × (TakesRightKinds p u v.thread → ServeStays y p given u served v q)))
 
--- each entry of a turn, and each of a barrier
+-- each entry of a turn, and each of a barrier, which an evacuation's is not
 pub record AccessesKeepUpToAKind (p : Ir) (code : LinearCode) (s : Settings) (log : List Entry) : Type 0 where
   pub turns : (front : List Entry) (e : Entry) (more : List Entry) → log ≡ front ++ e ∷ more → e.kind ≡ kind.turn → TurnStaysUpToAKind p code s front e
-  pub served : (front : List Entry) (e : Entry) (more : List Entry) → log ≡ front ++ e ∷ more → e.kind ≡ kind.barrier → ServesStayUpToAKind p code s front e
+  pub served : (front : List Entry) (e : Entry) (more : List Entry) → log ≡ front ++ e ∷ more → e.kind ≡ kind.barrier → e.how ≢ how.evacuation → ServesStayUpToAKind p code s front e

@@ -9,8 +9,8 @@ use Rattle.ak_trace.specs.Kinds as kind
 use Rattle.ak_trace.specs.declared.endings.End.{End}
 use Rattle.ak_trace.specs.declared.endings.End.TheVariants.{TurnLimit}
 use Rattle.flat_rules.specs.Rules.{Rules}
-use Rattle.flat_rules.specs.Machine.{Machine, Acted}
-use Rattle.flat_rules.specs.Entries.{served_entry, barrier_entry}
+use Rattle.flat_rules.specs.Machine.{Machine, Acted, Served, cleared, sweep}
+use Rattle.flat_rules.specs.Entries.{served_entry, barrier_entry, evacuation_entry, sweep_entries}
 use Rattle.flat_rules.specs.States.{State, Place, Mood, free, asked, at_home, homes_of, start, or_else, waits_for_room, kept_free}
 use Rattle.flat_rules.specs.Events.{Event, Goes, on, back, away, goes, turn_event, turned_by, places_after}
 use Rattle.flat_rules.specs.Replays.{event_at, step, run, replay, settled}
@@ -35,12 +35,21 @@ live_spare (Some e) b x h = absurd (cc h)
 live_spare None true x h = absurd (cc h)
 live_spare None false x h = refl
 
+-- a sweep has two entries beside those of the threads that it serves, and its first is of a barrier's kind
+pub sweep_few : (w : ℕ) (moved room : Bool) (ss : List Served) → length (sweep_entries w moved room ss) ≤ 2 + length ss
+sweep_few w true room ss = let a = length-map ss (served_entry w) in omega arith
+sweep_few w false room ss = let a = length-map ss (served_entry w) in omega arith
+
+pub sweep_first : (w : ℕ) (moved room : Bool) (ss : List Served) (d : Entry) (ds : List Entry) → sweep_entries w moved room ss ≡ d ∷ ds → d.kind ≡ kind.barrier
+sweep_first w true room ss d ds e = let same : evacuation_entry w ≡ d = cc e in sym (ap (λ (x : Entry). x.kind) same)
+sweep_first w false room ss d ds e = let same : barrier_entry w room ≡ d = cc e in sym (ap (λ (x : Entry). x.kind) same)
+
 module _ {S C : Type 0} (m : Machine S C) (settings : Rules) (few : ServesFew m) where
   -- what an event leaves of the spare and of the places, and how many entries it has
   pub record Modest (s : State S C) (v : Event S C) : Type 0 where
     pub spare : v.after.spare ≡ s.spare
     pub places : length v.after.places ≡ length s.places
-    pub entries : length v.entries ≤ 1 + length s.places
+    pub entries : length v.entries ≤ 2 + length s.places
     pub single : (d : Entry) (ds : List Entry) → v.entries ≡ d ∷ ds → d.kind ≢ kind.barrier → ds ≡ []
 
   turned_modest : (s : State S C) (w t n : ℕ) (mood : Mood) (a : Acted S C) → Modest s (turn_event m settings s w t n mood a)
@@ -58,8 +67,8 @@ module _ {S C : Type 0} (m : Machine S C) (settings : Rules) (few : ServesFew m)
     sweeps = λ want none. record {
       spare = refl;
       places = length_after s.places _;
-      entries = let a = length-map (m.barrier s.shared (homes_of s.places)).served (served_entry w) in let b = few s.shared (homes_of s.places) in let c = length-map s.places at_home in omega arith;
-      single = λ d ds e other. absurd (other (let same : barrier_entry w (waits_for_room m settings s) ≡ d = cc e in sym (ap (λ (x : Entry). x.kind) same)));
+      entries = let a = sweep_few w (cleared m settings.evacuates s.shared (homes_of s.places)).moved (waits_for_room m settings s) (sweep m settings.evacuates s.shared (homes_of s.places)).served in let b = few (cleared m settings.evacuates s.shared (homes_of s.places)).shared (homes_of s.places) in let c = length-map s.places at_home in omega arith;
+      single = λ d ds e other. absurd (other (sweep_first w (cleared m settings.evacuates s.shared (homes_of s.places)).moved (waits_for_room m settings s) _ d ds e));
     };
     works = λ t n c at. turned_modest s w t n free (m.act s.shared (m.local 1024 c));
     rests = λ t n c at. turned_modest s w t n asked (m.act s.shared (m.local 0 c));
@@ -84,7 +93,7 @@ module _ {S C : Type 0} (m : Machine S C) (settings : Rules) (few : ServesFew m)
       let v : Modest s f.v = subst (Holds m settings s e.worker (Modest s)) f.event (event_holds m settings s e.worker (Modest s) (modest s e.worker) e.kind e.thread) in
       let low : nat_lt s.spare 66 ≡ false = live_spare s.ending (nat_lt s.spare 66) _ f.live in
       let high : 66 ≤ s.spare = grind (arith, nat_tests) in
-      let few : length f.v.entries ≤ 65 = let x = v.entries in let y = c.places in omega arith in
+      let few : length f.v.entries ≤ 66 = let x = v.entries in let y = c.places in omega arith in
       let one : length f.v.entries ≡ suc (length f.ds) = ap length f.entries in
       let same : f.v.after.spare ≡ s.spare = v.spare in
       subst (Counts (log ++ e ∷ [])) (sym f.is) (record {

@@ -1,8 +1,8 @@
 -- What the rules ask of a flat machine beyond its operations, where what is shared is that of a run, and so is each context.
-use Rattle.std.specs.Prelude.{◌≡◌, ℕ, ◌+◌, ◌<◌, ◌≤◌, ◌==◌, ◌&&◌, ◌||◌, ◌⊎◌, Bool, true, false, nat_lt, count_by, List, [], ◌∷◌, length, map, All, Option, Some, None}
+use Rattle.std.specs.Prelude.{◌≡◌, ℕ, ◌+◌, ◌<◌, ◌≤◌, ◌==◌, ◌&&◌, ◌||◌, ◌⊎◌, Bool, true, false, if◌then◌else◌, nat_lt, count_by, List, [], ◌∷◌, length, map, All, Option, Some, None}
 use Rattle.std.specs.List.{AllZip}
-use Rattle.flat_rules.specs.Machine.{Machine, blank, works, steps, Acted, Turned, ended, wants_room}
-use Rattle.flat_rules.specs.Entries.{turn_entry, barrier_entry, served_entry}
+use Rattle.flat_rules.specs.Machine.{Machine, Cleared, Swept, blank, works, steps, Acted, Turned, ended, wants_room}
+use Rattle.flat_rules.specs.Entries.{turn_entry, evacuation_entry, barrier_entry, served_entry}
 use Rattle.flat_rules.specs.States.{most_threads}
 use Rattle.flat_rules.specs.Events.{most_local, back, away, goes}
 
@@ -83,11 +83,21 @@ module _ {S C : Type 0} (m : Machine S C) where
   KeptAt ContextOf (Some c) (Some d) = ContextOf d × (m.thread_of d ≡ m.thread_of c) × (m.progress d ≡ m.progress c) × (m.stands d ≡ m.stands c) × (m.waits d ≡ false)
   KeptAt ContextOf _ _ = ⊥
 
-  pub record Sweeps (SharedOf : S → Type 0) (ContextOf : C → Type 0) (s : S) (homes : List (Option C)) : Type 0 where
-    pub of_ : SharedOf (m.barrier s homes).shared
-    pub kept : AllZip (KeptAt ContextOf) homes (m.barrier s homes).homes
-    pub threads : m.threads (m.barrier s homes).shared ≡ m.threads s
-    pub ends : (k : ℕ) → m.has_ended (m.barrier s homes).shared k ≡ m.has_ended s k
+  pub record Sweeps (SharedOf : S → Type 0) (ContextOf : C → Type 0) (s : S) (homes : List (Option C)) (b : Swept S C) : Type 0 where
+    pub of_ : SharedOf b.shared
+    pub kept : AllZip (KeptAt ContextOf) homes b.homes
+    pub threads : m.threads b.shared ≡ m.threads s
+    pub ends : (k : ℕ) → m.has_ended b.shared k ≡ m.has_ended s k
+
+  -- an evacuation leaves what is shared that of the run, with its threads
+  pub record Clears (SharedOf : S → Type 0) (s : S) (v : Cleared S) : Type 0 where
+    pub of_ : SharedOf v.shared
+    pub threads : m.threads v.shared ≡ m.threads s
+    pub ends : (k : ℕ) → m.has_ended v.shared k ≡ m.has_ended s k
+
+  -- the entries of an evacuation: one where it moved an object, else none
+  abbrev pub EvacuationMakes : S → List (Option C) → Type 0
+  EvacuationMakes s homes = let v = m.evacuation s homes in m.made v.shared ≡ (if v.moved then evacuation_entry 0 ∷ [] else [])
 
   -- a thread that was made and hasn't ended has this context, which is of the run
   pub record Lives (SharedOf : S → Type 0) (ContextOf : C → Type 0) (s : S) (c : C) : Type 0 where
@@ -113,7 +123,8 @@ module _ {S C : Type 0} (m : Machine S C) where
     pub works : (n : ℕ) (c : C) → ContextOf c → (n ≡ 0) ⊎ (n ≡ most_local) → m.progress c ≡ works → Works ContextOf n c
     pub goes_on : (s : S) (c : C) → Lives SharedOf ContextOf s c → m.progress c ≡ steps → (goes (m.act s c).turned ≡ away → ⊥) → Goes_on ContextOf (m.act s c) c
     pub leaves : (s : S) (c : C) → Lives SharedOf ContextOf s c → m.progress c ≡ steps → m.threads s ≤ most_threads → Leaves SharedOf s (m.thread_of c) (m.act s c)
-    pub sweeps : (s : S) (homes : List (Option C)) → SharedOf s → All (IsOfRun ContextOf) homes → AreHome s homes → Sweeps SharedOf ContextOf s homes
+    pub sweeps : (s : S) (homes : List (Option C)) → SharedOf s → All (IsOfRun ContextOf) homes → AreHome s homes → Sweeps SharedOf ContextOf s homes (m.barrier s homes)
+    pub clears : (s : S) (homes : List (Option C)) → SharedOf s → All (IsOfRun ContextOf) homes → AreHome s homes → Clears SharedOf s (m.evacuation s homes)
 
   -- where nothing has run thread 0 alone was made, and none has ended
   pub record IsOpened (SharedOf : S → Type 0) (s : S) : Type 0 where

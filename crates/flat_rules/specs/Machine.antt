@@ -1,6 +1,6 @@
 -- A flat machine with its code, as far as the rules of the shared world see it: its operations, on plain data.
 -- `S` is what the threads share, `C` one thread's context.
-use Rattle.std.specs.Prelude.{ℕ, Bool, List, Option, ℤ}
+use Rattle.std.specs.Prelude.{ℕ, Bool, true, false, List, Option, ℤ}
 use Rattle.ak_trace.specs.declared.entry.Entry.{Entry}
 use Rattle.ak_trace.specs.declared.endings.TrapKind.{TrapKind}
 
@@ -38,6 +38,11 @@ pub record Swept (S C : Type 0) : Type 0 where
   pub homes : List (Option C)
   pub served : List Served
 
+-- what an evacuation comes to: whether it moved an object, and what it leaves. Where it moved none, that is what was there
+pub record Cleared (S : Type 0) : Type 0 where
+  pub moved : Bool
+  pub shared : S
+
 -- how far a context is: not begun, about to work by itself, or at its pending step
 pub data Progress : Type 0 where
   blank : Progress
@@ -58,6 +63,8 @@ pub record Machine (S C : Type 0) : Type 0 where
   pub act : S → C → Acted S C
   -- all slots are united, the objects slid, and then those served that wait for room
   pub barrier : S → List (Option C) → Swept S C
+  -- all slots are united, and the objects of thin sub-heaps moved out of them, where there is a move; the contexts stay as they are
+  pub evacuation : S → List (Option C) → Cleared S
   -- whether a thread at home waits for nothing, or for a mutex whose word is now 0, or for a thread that has ended
   pub is_ready : S → C → Bool
   -- whether the thread waits at an allocation for which no barrier has served it yet
@@ -72,3 +79,13 @@ pub record Machine (S C : Type 0) : Type 0 where
   pub stands : C → Bool
   -- whether the thread of this number has ended
   pub has_ended : S → ℕ → Bool
+
+module _ {S C : Type 0} (m : Machine S C) where
+  -- what a barrier finds: with the setting an evacuation came first
+  abbrev pub cleared : (evacuates : Bool) → S → List (Option C) → Cleared S
+  cleared true s homes = m.evacuation s homes
+  cleared false s homes = record { moved = false; shared = s }
+
+  -- a barrier, behind the evacuation that the setting asks for
+  abbrev pub sweep : (evacuates : Bool) → S → List (Option C) → Swept S C
+  sweep on s homes = m.barrier (cleared on s homes).shared homes

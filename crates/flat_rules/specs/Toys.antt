@@ -1,8 +1,8 @@
 -- A small machine on which journals are worked by hand: a thread is the list of its deeds.
 use Rattle.std.specs.Prelude.{ℕ, zero, suc, ◌+◌, ◌-◌, ◌*◌, ◌==◌, Bool, true, false, not, nat_lt, nat_le, if◌then◌else◌, List, [], ◌∷◌, count_by, map, Option, Some, None, ℤ, pos}
 use Rattle.ak_trace.specs.declared.entry.Entry.{Entry}
-use Rattle.flat_rules.specs.Entries.{turn_entry, barrier_entry, served_entry}
-use Rattle.flat_rules.specs.Machine.{Machine, Progress, blank, works, steps, Acted, Swept, Turned, stepped, got, made_thread, refused_thread, found_busy, wants_room, rested, ended}
+use Rattle.flat_rules.specs.Entries.{turn_entry, evacuation_entry, barrier_entry, served_entry}
+use Rattle.flat_rules.specs.Machine.{Machine, Progress, blank, works, steps, Acted, Cleared, Swept, Turned, stepped, got, made_thread, refused_thread, found_busy, wants_room, rested, ended}
 
 -- `safe` is a safepoint at a round's end; `spin` goes round for ever
 pub data Deed : Type 0 where
@@ -131,6 +131,11 @@ is_waiting (Some t) = waits_by t.want
 abbrev pub tell : List (Option Thread) → Swept Common Thread → Swept Common Thread
 tell hs r = record r { shared = record r.shared { entries = barrier_entry 0 (nat_lt 0 (count_by is_waiting hs)) ∷ map (served_entry 0) r.served } }
 
+-- an evacuation moves an object where two or more were made
+abbrev pub evacuates_by : Bool → Common → Cleared Common
+evacuates_by true s = record { moved = true; shared = record s { entries = evacuation_entry 0 ∷ [] } }
+evacuates_by false s = record { moved = false; shared = record s { entries = [] } }
+
 -- the machine, by what each thread has to do
 abbrev pub toy : (ℕ → List Deed) → Machine Common Thread
 toy code = record {
@@ -140,6 +145,7 @@ toy code = record {
   local = λ n t. local_by n t;
   act = λ s t. act_by t.rests t.deeds s t;
   barrier = λ s hs. tell hs (serve (record s { free = 2 }) hs);
+  evacuation = λ s hs. evacuates_by (nat_le 2 s.objects) s;
   is_ready = λ s t. ready_by t.want s;
   waits = λ t. waits_by t.want;
   threads = λ s. s.made;

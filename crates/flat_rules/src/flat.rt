@@ -4,7 +4,7 @@ ghost use Rattle.flat_rules.specs.declared.settings.Settings.{Settings};
 ghost use Rattle.flat_rules.specs.Machine.{Machine, blank, works, steps};
 ghost use Rattle.flat_rules.specs.States.{most_threads};
 ghost use Rattle.flat_rules.specs.Answers.{step_of};
-ghost use Rattle.flat_rules.specs.Lawful.{AreHome, IsOfRun, StepMakes, BarrierMakes, IsFlat, IsOpened, Lives};
+ghost use Rattle.flat_rules.specs.Lawful.{AreHome, IsOfRun, StepMakes, BarrierMakes, EvacuationMakes, IsFlat, IsOpened, Lives};
 
 use crate::settings::Settings;
 use crate::step::Step;
@@ -70,6 +70,15 @@ pub trait Flat<Code, Context>: Sized {
         ensures shared { self.new ≡ ((machine code.now).barrier self.old home.old).shared }
         ensures homes { home.new ≡ ((machine code.now).barrier self.old home.old).homes }
         ensures made { BarrierMakes (machine code.now) self.old home.old };
+
+    /// Moves the objects of thin sub-heaps out of them, and answers whether there was one. Where there was none nothing changes, and `made` is empty.
+    fn evacuation(&mut self, code: &Code, home: &[Option<Context>]) -> bool
+        requires shared { shared_of code.now self.old }
+        requires contexts { All (IsOfRun (machine code.now) (context_of code.now)) home.now }
+        requires home { AreHome (machine code.now) self.old home.now }
+        ensures moved { result ≡ ((machine code.now).evacuation self.old home.now).moved }
+        ensures shared { self.new ≡ ((machine code.now).evacuation self.old home.now).shared }
+        ensures made { EvacuationMakes (machine code.now) self.old home.now };
 
     /// Whether a thread at home waits for nothing that is not there.
     fn is_ready(&self, code: &Code, ctx: &Context) -> bool

@@ -4,7 +4,7 @@ ghost use Rattle.ak_trace.specs.declared.endings.End.TheVariants.{Done, AllBlock
 ghost use Rattle.flat_rules.specs.Laws.{SpareIsLeft, EventsFit, JournalsFit, TurnLimitAt65, BarriersAlone};
 ghost use Rattle.flat_rules.specs.Draws.{draws, seeded};
 ghost use Rattle.flat_rules.specs.Toys.{safe, spin, store, lock, alloc, stop, start};
-ghost use Rattle.flat_rules.specs.Rows.{told, ends_as, done_journal, blocked_journal, spin_journal, every_journal, room_journal, schedule_journal, start_and_join, pick_journal, asked_journal};
+ghost use Rattle.flat_rules.specs.Rows.{told, told_to_evacuate, evacuation_journal, ends_as, done_journal, blocked_journal, spin_journal, every_journal, room_journal, schedule_journal, start_and_join, pick_journal, asked_journal};
 
 /// The first draws from seed 1.
 pub fn first_draws()
@@ -36,6 +36,14 @@ pub fn a_barrier_for_every()
 /// A barrier for room.
 pub fn a_barrier_for_room()
     ensures { ends_as (told 1 None None 1000) (alloc ∷ alloc ∷ alloc ∷ stop (pos 0) ∷ []) [] room_journal ≡ Some (Some (Done (pos 0))) }
+{}
+
+/// An evacuation before a barrier, exactly where the setting asks for it and there is a move.
+pub fn an_evacuation_before_a_barrier()
+    ensures first { ends_as (told_to_evacuate 1 None None 1000) (alloc ∷ alloc ∷ alloc ∷ stop (pos 0) ∷ []) [] evacuation_journal ≡ Some (Some (Done (pos 0))) }
+    ensures asked_for { ends_as (told_to_evacuate 1 None None 1000) (alloc ∷ alloc ∷ alloc ∷ stop (pos 0) ∷ []) [] room_journal ≡ None }
+    ensures not_asked_for { ends_as (told 1 None None 1000) (alloc ∷ alloc ∷ alloc ∷ stop (pos 0) ∷ []) [] evacuation_journal ≡ None }
+    ensures not_alone { ends_as (told_to_evacuate 1 None None 1000) (alloc ∷ alloc ∷ alloc ∷ stop (pos 0) ∷ []) [] (take 6 evacuation_journal) ≡ None }
 {}
 
 /// A thread made during the run, under a schedule.

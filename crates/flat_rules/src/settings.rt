@@ -38,6 +38,8 @@ pub struct Settings {
     pub ids: u32,
     /// How many entries the journal may have.
     pub entries: u32,
+    /// Whether objects are moved out of thin sub-heaps before a barrier.
+    pub evacuate: bool,
     /// How many bytes may be printed.
     pub output: u32,
     /// What the program does.

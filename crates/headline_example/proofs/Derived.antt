@@ -52,6 +52,7 @@ heap_wanted = record {
   subheaps = 16;
   ids = 65536;
   entries = 1000000;
+  evacuate = false;
   output = 1048576;
   mode = Run;
   seed = None;
@@ -181,6 +182,7 @@ module _ (one_tree : OneTree) (not_both : NotBoth) (the_tree : IsTheTree) (known
       subheaps = ap (λ (w : Wanted). w.subheaps) settings_are;
       ids = ap (λ (w : Wanted). w.ids) settings_are;
       entries = ap (λ (w : Wanted). w.entries) settings_are;
+      evacuate = ap (λ (w : Wanted). w.evacuate) settings_are;
     }
 
     named : source_in file e.settings ≡ Some (Read (file heap_name))
@@ -229,7 +231,7 @@ module _ (one_tree : OneTree) (not_both : NotBoth) (the_tree : IsTheTree) (known
     ran_so : CameTo (file heap_name) out note e
     ran_so = by run.what_it_wrote
       where
-        by : Written run.judged e.status f.output (report_text end f.report ++ run.behind) out note → CameTo (file heap_name) out note e
+        by : Written run.judged e.status f.output (report_text run.settings.evacuate end f.report ++ run.behind) out note → CameTo (file heap_name) out note e
         by (inl w) = printed (w.status_is ∙ (answered.0 ∙ ap status_of ended.is)) (subst (Gained out) ended.output w.out_gained)
         by (inr (inl w)) = unwritten w.status_is (inl w.fault) (subst (GainedFront out) ended.output w.out_gained)
         by (inr (inr w)) = unwritten (w.status_is ∙ ap after_note_fault (answered.0 ∙ ap status_of ended.is)) (inr w.fault) (all_first out (subst (Gained out) ended.output w.out_gained))

@@ -162,7 +162,7 @@ module _ (instrs : List Instr) (shrinks : Shrinks (flow instrs)) (entries : ℕ)
   m = machine_of (code_with instrs)
 
   abbrev r : Rules
-  r = record { workers = 1; schedule = None; every = None; entries = entries }
+  r = record { workers = 1; schedule = None; every = None; entries = entries; evacuates = false }
 
   abbrev S : Type 0
   S = State Shared Context

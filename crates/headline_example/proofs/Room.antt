@@ -83,10 +83,10 @@ module _ (instrs : List Instr) (shrinks : Shrinks (flow instrs)) (ns : Nodes) (f
   code = code_with instrs
 
   abbrev r : Rules
-  r = record { workers = 1; schedule = None; every = None; entries = s.entries }
+  r = record { workers = 1; schedule = None; every = None; entries = s.entries; evacuates = false }
 
   rules_are : rules_of s ≡ r
-  rules_are = λ i. record { workers = d.workers i; schedule = d.schedule i; every = d.every i; entries = s.entries }
+  rules_are = λ i. record { workers = d.workers i; schedule = d.schedule i; every = d.every i; entries = s.entries; evacuates = d.evacuate i }
 
   abbrev memory : Memory
   memory = first_memory (linear_image code (settings_limits s))

@@ -1,5 +1,5 @@
 -- What the machine makes of the text's code under the default settings: its journals and its stack have room, and its malloc gets an object.
-use Rattle.std.specs.Prelude.{◌≡◌, ◌≤◌, List, length, Some, None, true}
+use Rattle.std.specs.Prelude.{◌≡◌, ◌≤◌, List, length, Some, None, true, false}
 use Rattle.ak_trace.specs.declared.entry.Entry.{Entry}
 use Rattle.struct_ir.specs.Nodes.{Ir}
 use Rattle.struct_ir.specs.Erased.{ir_erased}
@@ -29,8 +29,8 @@ pub record IsTextsCode (checked : Ir) (code : LinearCode) : Type 0 where
   pub emitted : IsEmitted checked code
   pub lawful : AllLawful code.funcs
 
--- what counts of the default settings: one worker, no draws, no barrier by count, 16 sub-heaps of 65,536 bytes, 65,536 ids, and 1,000,000
--- entries of the journal
+-- what counts of the default settings: one worker, no draws, no barrier by count, 16 sub-heaps of 65,536 bytes, 65,536 ids, 1,000,000
+-- entries of the journal, and no evacuations
 pub record AreDefaults (s : Settings) : Type 0 where
   pub workers : s.workers ≡ 1
   pub schedule : s.schedule ≡ None
@@ -39,6 +39,7 @@ pub record AreDefaults (s : Settings) : Type 0 where
   pub subheaps : s.subheaps ≡ 16
   pub ids : s.ids ≡ 65536
   pub entries : s.entries ≡ 1000000
+  pub evacuate : s.evacuate ≡ false
 
 -- the run didn't end since the journal was full, nor since a call had no room on its stack
 abbrev pub NotFull : End → Type 0

@@ -1,5 +1,5 @@
--- The report of a run that ended: eight lines.
-use Rattle.std.specs.Prelude.{ℕ, List, ◌++◌, codes, decimal, Option, Some, None}
+-- The report of a run that ended: eight lines, and a ninth where evacuations are wanted.
+use Rattle.std.specs.Prelude.{ℕ, Bool, List, [], ◌++◌, codes, decimal, Option, Some, None, if◌then◌else◌}
 use Rattle.std.specs.Fmt.{signed_decimal}
 use Rattle.ak_trace.specs.declared.endings.End.{End}
 use Rattle.ak_trace.specs.declared.endings.End.TheVariants as ends
@@ -45,9 +45,17 @@ last_text (Some barrier) = barrier_text barrier
 abbrev pub line : List ℕ → List ℕ → List ℕ
 line of told = of ++ codes ": " ++ told ++ codes "\n"
 
--- the eight lines
-unfoldable pub report_text : End → Report → List ℕ
-report_text end report = line (codes "ended") (end_text end)
+-- so many sub-heaps
+abbrev pub sub_heaps_text : ℕ → List ℕ
+sub_heaps_text number = decimal number ++ codes " sub-heaps"
+
+-- the line of evacuations, where they are wanted: how many sub-heaps they emptied, each time that they did
+abbrev pub evacuated_text : (evacuates : Bool) → ℕ → List ℕ
+evacuated_text evacuates emptied = if evacuates then line (codes "evacuated") (sub_heaps_text emptied) else []
+
+-- the eight lines and, where evacuations are wanted, the ninth
+unfoldable pub report_text : (evacuates : Bool) → End → Report → List ℕ
+report_text evacuates end report = line (codes "ended") (end_text end)
     ++ line (codes "threads") (decimal report.threads)
     ++ line (codes "entries") (decimal report.entries)
     ++ line (codes "barriers") (decimal report.barriers)
@@ -55,3 +63,4 @@ report_text end report = line (codes "ended") (end_text end)
     ++ line (codes "live") (objects_text report.live_objects report.live_bytes)
     ++ line (codes "extent") (decimal report.extent ++ codes " of " ++ decimal report.heap)
     ++ line (codes "last barrier") (last_text report.last)
+    ++ evacuated_text evacuates report.emptied

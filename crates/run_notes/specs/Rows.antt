@@ -1,5 +1,5 @@
 -- Texts of note, as they are written.
-use Rattle.std.specs.Prelude.{◌≡◌, pos, negsuc, [], ◌∷◌, ◌++◌, map, codes, replicate, Some, None, refl}
+use Rattle.std.specs.Prelude.{◌≡◌, true, false, pos, negsuc, [], ◌∷◌, ◌++◌, map, codes, replicate, Some, None, refl}
 use Rattle.std.specs.Fmt.{digits}
 use Rattle.c_lex.specs.declared.refusal.Kind.TheVariants.{TooDeep, UnknownName, OutsideSubset}
 use Rattle.ak_trace.specs.declared.endings.End.TheVariants.{Done, Trap, AllBlocked, TurnLimit, OutputLimit, StackLimit}
@@ -22,6 +22,7 @@ short_run = record {
   barriers = 0;
   moved_objects = 0;
   moved_bytes = 0;
+  emptied = 0;
   live_objects = 0;
   live_bytes = 0;
   extent = 0;
@@ -29,7 +30,7 @@ short_run = record {
   last = None;
 }
 
-pub short_run_text : report_text (Done (pos 0)) short_run ≡ codes "ended: done 0\nthreads: 1\nentries: 2\nbarriers: 0\nmoved: 0 objects, 0 bytes\nlive: 0 objects, 0 bytes\nextent: 0 of 1048576\nlast barrier: none\n"
+pub short_run_text : report_text false (Done (pos 0)) short_run ≡ codes "ended: done 0\nthreads: 1\nentries: 2\nbarriers: 0\nmoved: 0 objects, 0 bytes\nlive: 0 objects, 0 bytes\nextent: 0 of 1048576\nlast barrier: none\n"
 unfolding report_text digits
 short_run_text = refl
 
@@ -41,6 +42,7 @@ full_heap = record {
   barriers = 2;
   moved_objects = 128;
   moved_bytes = 2048;
+  emptied = 0;
   live_objects = 129;
   live_bytes = 4096;
   extent = 4096;
@@ -48,9 +50,34 @@ full_heap = record {
   last = Some (record { before = 4096; after = 4096; room = 0 });
 }
 
-pub full_heap_text : report_text (Done (pos 0)) full_heap ≡ codes "ended: done 0\nthreads: 1\nentries: 700\nbarriers: 2\nmoved: 128 objects, 2048 bytes\nlive: 129 objects, 4096 bytes\nextent: 4096 of 4096\nlast barrier: extent 4096 to 4096, room 0\n"
+pub full_heap_text : report_text false (Done (pos 0)) full_heap ≡ codes "ended: done 0\nthreads: 1\nentries: 700\nbarriers: 2\nmoved: 128 objects, 2048 bytes\nlive: 129 objects, 4096 bytes\nextent: 4096 of 4096\nlast barrier: extent 4096 to 4096, room 0\n"
 unfolding report_text digits
 full_heap_text = refl
+
+-- a main that ends at once, with evacuations wanted
+pub short_run_text-evacuating : report_text true (Done (pos 0)) short_run ≡ codes "ended: done 0\nthreads: 1\nentries: 2\nbarriers: 0\nmoved: 0 objects, 0 bytes\nlive: 0 objects, 0 bytes\nextent: 0 of 1048576\nlast barrier: none\nevacuated: 0 sub-heaps\n"
+unfolding report_text digits
+short_run_text-evacuating = refl
+
+-- an evacuation leaves a sub-heap of 4,096 bytes empty, and an object of that size goes there
+abbrev pub room_made : Report
+room_made = record {
+  threads = 1;
+  entries = 13;
+  barriers = 1;
+  moved_objects = 1;
+  moved_bytes = 64;
+  emptied = 1;
+  live_objects = 3;
+  live_bytes = 4224;
+  extent = 4224;
+  heap = 8192;
+  last = Some (record { before = 128; after = 128; room = 4096 });
+}
+
+pub room_made_text : report_text true (Done (pos 0)) room_made ≡ codes "ended: done 0\nthreads: 1\nentries: 13\nbarriers: 1\nmoved: 1 objects, 64 bytes\nlive: 3 objects, 4224 bytes\nextent: 4224 of 8192\nlast barrier: extent 128 to 128, room 4096\nevacuated: 1 sub-heaps\n"
+unfolding report_text digits
+room_made_text = refl
 
 pub ends_text : end_text (Done (negsuc 0)) ++ end_text (Trap 0 Store) ++ end_text (Trap 9223372036854775808 Free) ++ end_text AllBlocked
     ++ end_text TurnLimit ++ end_text OutputLimit ++ end_text (StackLimit 0)

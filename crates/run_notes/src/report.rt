@@ -1,5 +1,5 @@
 ghost use Rattle.std.specs.Prelude.{◌≡◌, ◌+◌, ◌≤◌, ◌++◌, [], length, codes, decimal, vec_len, vec_capacity};
-ghost use Rattle.run_notes.specs.Reports.{barrier_text, end_text, last_text, line, objects_text, report_text, trap_name};
+ghost use Rattle.run_notes.specs.Reports.{barrier_text, end_text, evacuated_text, last_text, line, objects_text, report_text, sub_heaps_text, trap_name};
 
 use crate::pieces::{push_bytes, push_decimal};
 use ak_trace::{End, TrapKind};
@@ -152,12 +152,38 @@ fn push_last(text: &mut Vec<u8>, last: Option<LastBarrier>)
     push_bytes(text, b"\n");
 }
 
-/// Writes the report of a run that ended so. It has no more bytes than are reserved, so no memory is taken.
+// Writes so many sub-heaps.
+fn push_sub_heaps(text: &mut Vec<u8>, of: &[u8], number: u64)
+    requires { vec_len text.old + (length of.now + 33) ≤ vec_capacity text.old }
+    ensures items { text.new.items ≡ text.old.items ++ line of.now (sub_heaps_text number) }
+    ensures len { vec_len text.new ≤ vec_len text.old + (length of.now + 33) }
+    ensures capacity { vec_capacity text.new ≡ vec_capacity text.old }
+{
+    push_bytes(text, of);
+    push_bytes(text, b": ");
+    push_decimal(text, number);
+    push_bytes(text, b" sub-heaps\n");
+}
+
+// Writes the line of evacuations, where they are wanted.
+fn push_evacuated(text: &mut Vec<u8>, evacuates: bool, emptied: u32)
+    requires { vec_len text.old + 42 ≤ vec_capacity text.old }
+    ensures items { text.new.items ≡ text.old.items ++ evacuated_text evacuates emptied }
+    ensures len { vec_len text.new ≤ vec_len text.old + 42 }
+    ensures capacity { vec_capacity text.new ≡ vec_capacity text.old }
+{
+    if evacuates {
+        push_sub_heaps(text, b"evacuated", u64::from(emptied));
+    }
+}
+
+/// Writes the report of a run that ended so, with the line of evacuations where they are wanted. It has no more bytes than are reserved, so no memory
+/// is taken.
 #[tactic(auto, unfolding(crate::specs::Reports::report_text))]
-pub fn push_report(text: &mut Vec<u8>, end: End, report: &Report)
+pub fn push_report(text: &mut Vec<u8>, evacuates: bool, end: End, report: &Report)
     requires empty { text.old.items ≡ [] }
     requires reserved { 1024 ≤ vec_capacity text.old }
-    ensures text { text.new.items ≡ report_text end report.now }
+    ensures text { text.new.items ≡ report_text evacuates end report.now }
     ensures short { length text.new.items ≤ 1024 }
 {
     push_ended(text, end);
@@ -173,4 +199,5 @@ pub fn push_report(text: &mut Vec<u8>, end: End, report: &Report)
     );
     push_extent(text, report.extent, report.heap);
     push_last(text, report.last);
+    push_evacuated(text, evacuates, report.emptied);
 }

@@ -16,12 +16,14 @@ pub struct Report {
     pub threads: u32,
     /// How many entries the journal has.
     pub entries: u32,
-    /// How many barriers there were. This count and the two below stay at their greatest number once they are there.
+    /// How many barriers there were; an evacuation is none. This count and the three below stay at their greatest number once they are there.
     pub barriers: u64,
-    /// How many moves they made.
+    /// How many moves they made, with those of evacuations.
     pub moved_objects: u64,
     /// How many bytes those moved.
     pub moved_bytes: u64,
+    /// How many sub-heaps evacuations emptied, each time that they did.
+    pub emptied: u32,
     /// How many objects live.
     pub live_objects: u32,
     /// How many bytes those take.

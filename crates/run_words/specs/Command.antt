@@ -17,7 +17,7 @@ option_rule name = record (new_rule name) { long = Some name }
 -- the names of the options
 abbrev pub option_names : List (List ℕ)
 option_names = codes "workers" ∷ codes "schedule" ∷ codes "every" ∷ codes "subheap" ∷ codes "subheaps" ∷ codes "ids"
-    ∷ codes "entries" ∷ codes "output" ∷ codes "mode" ∷ codes "seed" ∷ codes "size" ∷ []
+    ∷ codes "entries" ∷ codes "evacuate" ∷ codes "output" ∷ codes "mode" ∷ codes "seed" ∷ codes "size" ∷ []
 
 -- the command without its options
 abbrev pub alone : App

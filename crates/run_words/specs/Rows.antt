@@ -1,5 +1,5 @@
 -- Words worked by hand.
-use Rattle.std.specs.Prelude.{◌≡◌, ℕ, List, [], ◌∷◌, codes, map, Some, None, replicate, refl}
+use Rattle.std.specs.Prelude.{◌≡◌, ℕ, true, false, List, [], ◌∷◌, codes, map, Some, None, replicate, refl}
 use Rattle.clap.proofs.OnLiterals.{clap_on_literals}
 use Rattle.flat_rules.specs.declared.settings.Mode.TheVariants.{Run, Churn, Check, Build, Load}
 use Rattle.run_words.specs.Numbers.{number_in}
@@ -21,6 +21,7 @@ plain = record {
   subheaps = 16;
   ids = 65536;
   entries = 1000000;
+  evacuate = false;
   output = 1048576;
   mode = Run;
   seed = None;
@@ -40,6 +41,12 @@ options_around_file = refl
 pub small_heap : settings_of (called (codes "a.c" ∷ codes "--subheap" ∷ codes "4096" ∷ codes "--subheaps" ∷ codes "1" ∷ [])) ≡ Some (record plain { subheap = 4096; subheaps = 1 })
 unfolding settings_of are_taken alaska value_in wanted_by number_in clap_on_literals
 small_heap = refl
+
+-- thin sub-heaps are evacuated with 1, and not with 0
+pub evacuations : map settings_of (called (codes "a.c" ∷ codes "--evacuate" ∷ codes "1" ∷ []) ∷ called (codes "--evacuate=0" ∷ codes "a.c" ∷ []) ∷ [])
+    ≡ Some (record plain { evacuate = true }) ∷ Some plain ∷ []
+unfolding settings_of are_taken alaska value_in wanted_by number_in clap_on_literals
+evacuations = refl
 
 -- the greatest numbers, with zeros before them up to 20 digits
 pub greatest_numbers : settings_of (called (codes "a.c" ∷ codes "--schedule" ∷ codes "18446744073709551615" ∷ codes "--ids" ∷ codes "00000000000001048576"
@@ -87,7 +94,7 @@ unfolding settings_of are_taken alaska value_in wanted_by number_in clap_on_lite
 wrong_words_want_nothing = refl
 
 -- more of them: words for help or a version, an option that is unknown, that has no value or comes twice, a second file, a value that is no numeral
--- or has 21 digits, a heap that is too large, an option of the other mode, a mode that there isn't
+-- or has 21 digits, a heap that is too large, a 2 where evacuations are wanted or not, an option of the other mode, a mode that there isn't
 abbrev pub more_wrong_words : List (List (List ℕ))
 more_wrong_words = map called ((codes "--help" ∷ [])
     ∷ (codes "a.c" ∷ codes "-h" ∷ [])
@@ -102,11 +109,12 @@ more_wrong_words = map called ((codes "--help" ∷ [])
     ∷ (codes "a.c" ∷ codes "--ids" ∷ codes "000000000000000000005" ∷ [])
     ∷ (codes "a.c" ∷ codes "--schedule" ∷ codes "18446744073709551616" ∷ [])
     ∷ (codes "a.c" ∷ codes "--subheap" ∷ codes "16777216" ∷ codes "--subheaps" ∷ codes "17" ∷ [])
+    ∷ (codes "a.c" ∷ codes "--evacuate" ∷ codes "2" ∷ [])
     ∷ (codes "a.c" ∷ codes "--seed" ∷ codes "1" ∷ [])
     ∷ (codes "a.c" ∷ codes "--mode" ∷ codes "walk" ∷ [])
     ∷ [])
 
-pub more_wrong_words_want_nothing : map settings_of more_wrong_words ≡ replicate 15 None
+pub more_wrong_words_want_nothing : map settings_of more_wrong_words ≡ replicate 16 None
 unfolding settings_of are_taken alaska value_in wanted_by number_in clap_on_literals
 more_wrong_words_want_nothing = refl
 

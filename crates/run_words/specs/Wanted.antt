@@ -1,5 +1,5 @@
 -- What the words of a command line want.
-use Rattle.std.specs.Prelude.{ℕ, ◌*◌, ◌&&◌, Bool, false, List, codes, nat_le, Option, Some, None, is_none, is_some, option_and_then, option_map, string_bytes, if◌then◌else◌}
+use Rattle.std.specs.Prelude.{ℕ, ◌*◌, ◌&&◌, ◌==◌, Bool, false, List, codes, nat_le, Option, Some, None, is_none, is_some, option_and_then, option_map, string_bytes, if◌then◌else◌}
 use Rattle.std.specs.Str.{bytes_eq}
 use Rattle.flat_rules.specs.Ranges.{is_sub_heap_size}
 use Rattle.flat_rules.specs.declared.settings.Mode.{Mode}
@@ -18,6 +18,7 @@ pub record Wanted : Type 0 where
   pub subheaps : ℕ
   pub ids : ℕ
   pub entries : ℕ
+  pub evacuate : Bool
   pub output : ℕ
   pub mode : Mode
   pub seed : Option ℕ
@@ -34,6 +35,7 @@ wanted_of s = record {
   subheaps = s.subheaps;
   ids = s.ids;
   entries = s.entries;
+  evacuate = s.evacuate;
   output = s.output;
   mode = s.mode;
   seed = s.seed;
@@ -68,6 +70,7 @@ wanted_by value = do
   subheaps ← number_or 16 (1 to 256) (value (codes "subheaps"))
   ids ← number_or 65536 (1 to 1048576) (value (codes "ids"))
   entries ← number_or 1000000 (1000 to 16000000) (value (codes "entries"))
+  evacuate ← number_or 0 (0 to 1) (value (codes "evacuate"))
   output ← number_or 1048576 (1 to 16777216) (value (codes "output"))
   mode ← mode_or_run (value (codes "mode"))
   seed ← number_if_given (0 to 18446744073709551615) (value (codes "seed"))
@@ -81,6 +84,7 @@ wanted_by value = do
     subheaps = subheaps;
     ids = ids;
     entries = entries;
+    evacuate = evacuate == 1;
     output = output;
     mode = mode;
     seed = seed;

@@ -10,9 +10,9 @@ use clap::{Arg, ArgMatches, Command};
 use std::alloc::Global;
 
 // The names of the options.
-static NAMES: [&str; 11] = [
-    "workers", "schedule", "every", "subheap", "subheaps", "ids", "entries", "output", "mode",
-    "seed", "size",
+static NAMES: [&str; 12] = [
+    "workers", "schedule", "every", "subheap", "subheaps", "ids", "entries", "evacuate", "output",
+    "mode", "seed", "size",
 ];
 
 // An option of one value.

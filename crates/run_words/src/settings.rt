@@ -60,6 +60,7 @@ fn numbers_of(matches: &ArgMatches) -> Option<Settings>
     let subheaps = Bounds::new(1, 256).small_or(matches, "subheaps", 16)?;
     let ids = Bounds::new(1, 1_048_576).small_or(matches, "ids", 65_536)?;
     let entries = Bounds::new(1_000, 16_000_000).small_or(matches, "entries", 1_000_000)?;
+    let evacuate = Bounds::new(0, 1).small_or(matches, "evacuate", 0)? == 1;
     let output = Bounds::new(1, 16_777_216).small_or(matches, "output", 1_048_576)?;
     let mode = mode_or_run(matches)?;
     let seed = any.number_if_given(matches, "seed")?;
@@ -76,6 +77,7 @@ fn numbers_of(matches: &ArgMatches) -> Option<Settings>
         subheaps,
         ids,
         entries,
+        evacuate,
         output,
         mode,
         seed,

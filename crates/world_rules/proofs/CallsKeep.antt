@@ -7,13 +7,14 @@ use Rattle.std.proofs.Math.ListN.{get_or-map}
 use Rattle.ak_trace.specs.declared.entry.Entry.{Entry}
 use Rattle.ak_trace.specs.declared.endings.End.{End}
 use Rattle.ak_trace.specs.declared.endings.End.TheVariants.{TurnLimit}
-use Rattle.flat_rules.specs.Machine.{Machine}
+use Rattle.flat_rules.specs.Machine.{Machine, cleared, sweep}
 use Rattle.flat_rules.specs.States.{State, Place, unbegun, home, out, gone, Mood, free, asked, must, place_at, at_home, homes_of, is_out, is_wanted, none_out, pick, or_else}
 use Rattle.flat_rules.specs.Events.{most_local}
 use Rattle.flat_rules.specs.Lawful.{IsFlat, IsOpened, Begins}
 use Rattle.flat_rules.specs.Replays.{settled}
 use Rattle.flat_rules.specs.inner.Cases.{same_number}
 use Rattle.flat_rules.proofs.Spares.{spare_is_left}
+use Rattle.flat_rules.proofs.Clearing.{sweeps_on}
 use Rattle.world_rules.specs.declared.calls.Call.{Call}
 use Rattle.world_rules.specs.declared.calls.Call.TheVariants as call
 use Rattle.world_rules.specs.Whole.{Whole, Leads, Replays, Reaches, whole_of}
@@ -106,11 +107,11 @@ module _ {S K C : Type 0} (machine : K → Machine S C) (first : Whole S K C) wh
         cond_good true r r' p q = p refl
         cond_good false r r' p q = q refl
 
-        sweep_good : is_wanted m first.settings s ≡ true → none_out m first.settings s ≡ true → GoodOf (calls.sweeps machine x w (m.barrier s.shared (homes_of s.places)))
+        sweep_good : is_wanted m first.settings s ≡ true → none_out m first.settings s ≡ true → GoodOf (calls.sweeps machine x w (cleared m first.settings.evacuates s.shared (homes_of s.places)).moved (sweep m first.settings.evacuates s.shared (homes_of s.places)))
         sweep_good want none =
             let quiet : count_by is_out s.places ≡ 0 = same_number _ 0 none in
-            let b = flat.sweeps s.shared (homes_of s.places) i.of_ (of_run m ContextOf SharedOf flat s.shared s.places i.of_ i.few sits) (may_sweep m ContextOf SharedOf flat s.shared s.places i.of_ i.few sits i.places quiet) in
-            sweeps_good machine first log s stands w known ContextOf before want none b.kept (flat.few s.shared (homes_of s.places))
+            let b = sweeps_on m SharedOf ContextOf flat first.settings.evacuates s.shared (homes_of s.places) i.of_ (of_run m ContextOf SharedOf flat s.shared s.places i.of_ i.few sits) (may_sweep m ContextOf SharedOf flat s.shared s.places i.of_ i.few sits i.places quiet) in
+            sweeps_good machine first log s stands w known ContextOf before want none b.kept (flat.few (cleared m first.settings.evacuates s.shared (homes_of s.places)).shared (homes_of s.places))
 
         find_good : GoodOf (calls.seeks machine x w)
         find_good = cond_good (is_wanted m first.settings s) _ _

@@ -1,10 +1,10 @@
 -- A call adds few entries.
-use Rattle.std.proofs.Common.{◌≡◌, ℕ, ◌≤◌, ◌==◌, Bool, true, false, cond, List, length, ap, arith, Option, Some, None}
+use Rattle.std.proofs.Common.{◌≡◌, ℕ, ◌≤◌, ◌==◌, Bool, true, false, cond, nat_lt, List, length, ap, arith, Option, Some, None}
 use Rattle.std.proofs.lemmas.List.{length-map}
 use Rattle.ak_trace.specs.declared.entry.Entry.{Entry}
 use Rattle.ak_trace.specs.declared.endings.End.{End}
-use Rattle.flat_rules.specs.Machine.{Machine}
-use Rattle.flat_rules.specs.Entries.{served_entry}
+use Rattle.flat_rules.proofs.Spares.{sweep_few}
+use Rattle.flat_rules.specs.Machine.{Machine, cleared, sweep}
 use Rattle.flat_rules.specs.States.{at_home, homes_of, kept_free}
 use Rattle.flat_rules.specs.Lawful.{IsFlat}
 use Rattle.world_rules.specs.declared.calls.Call.{Call}
@@ -38,9 +38,9 @@ module _ (w : ℕ) where
     homes_few (Some end) d = omega arith
     homes_few None d = omega arith
 
-    module _ (sized : length x.homes ≤ 65) (served : length ((machine x.code).barrier x.shared x.homes).served ≤ length x.homes) where
-      sweeps_few : Few (sweeps machine x w ((machine x.code).barrier x.shared x.homes)).1
-      sweeps_few = let a = length-map ((machine x.code).barrier x.shared x.homes).served (served_entry w) in omega arith
+    module _ (sized : length x.homes ≤ 64) (served : length (sweep (machine x.code) x.settings.evacuates x.shared x.homes).served ≤ length x.homes) where
+      sweeps_few : Few (sweeps machine x w (cleared (machine x.code) x.settings.evacuates x.shared x.homes).moved (sweep (machine x.code) x.settings.evacuates x.shared x.homes)).1
+      sweeps_few = let a = sweep_few w (cleared (machine x.code) x.settings.evacuates x.shared x.homes).moved (nat_lt 0 x.waiting) (sweep (machine x.code) x.settings.evacuates x.shared x.homes).served in omega arith
 
       finds_few : (o : Option End) → Few (finds_by machine x w o).1
       finds_few (Some end) = omega arith
@@ -59,4 +59,4 @@ calls_fit machine SharedOf ContextOf flat first log x w c r =
     let places = stands.places in
     let homes : length x.homes ≡ length (homes_of r.replays.state.places) = ap (λ z. length z.homes) r.replays.is in
     let all = length-map r.replays.state.places at_home in
-    calls_few w machine x (omega arith) ((flat x.code).few x.shared x.homes) c
+    calls_few w machine x (omega arith) ((flat x.code).few (cleared (machine x.code) x.settings.evacuates x.shared x.homes).shared x.homes) c

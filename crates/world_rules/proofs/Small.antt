@@ -6,8 +6,8 @@ use Rattle.std.proofs.lemmas.Bool.Decides.{nat_tests}
 use Rattle.flat_rules.specs.Machine.{steps, Acted, Turned, stepped, got, made_thread, refused_thread, found_busy, wants_room, rested, ended}
 use Rattle.flat_rules.specs.States.{most_threads}
 use Rattle.flat_rules.specs.Events.{away, goes}
-use Rattle.flat_rules.specs.Lawful.{IsFlat, IsOpened, Goes_on, Leaves, KeptAt, is_end, is_for_room}
-use Rattle.flat_rules.specs.Toys.{Deed, safe, spin, store, lock, unlock, start, join, alloc, stop, Want, nothing, key, other, room, Thread, Common, has, rounds, behind, work, rest_at, local_by, comes_to, deed_by, act_by, waits_by, taken, serve, toy, common}
+use Rattle.flat_rules.specs.Lawful.{IsFlat, IsOpened, Goes_on, Leaves, KeptAt, Clears, is_end, is_for_room}
+use Rattle.flat_rules.specs.Toys.{evacuates_by, Deed, safe, spin, store, lock, unlock, start, join, alloc, stop, Want, nothing, key, other, room, Thread, Common, has, rounds, behind, work, rest_at, local_by, comes_to, deed_by, act_by, waits_by, taken, serve, toy, common}
 use Rattle.world_rules.specs.Rows.{Any, SmallIsLawful}
 
 or_none : (b c : Bool) → b ≡ (b || (c && false))
@@ -121,6 +121,11 @@ module _ (code : ℕ → List Deed) where
       by (other k) r r' = record { kept = ((tt, refl, refl, refl, refl), r.kept); made = r.made; ends = r.ends; few = let a = r.few in omega arith }
       by room r r' = let e = taken_same s in record { kept = ((tt, refl, refl, refl, refl), r'.kept); made = r'.made ∙ e.0; ends = r'.ends ∙ e.1; few = let a = r'.few in omega arith }
 
+  -- an evacuation leaves the threads as they are
+  clears_by : (s : Common) (b : Bool) → Clears (toy code) Any s (evacuates_by b s)
+  clears_by s true = record { of_ = tt; threads = refl; ends = λ k. refl }
+  clears_by s false = record { of_ = tt; threads = refl; ends = λ k. refl }
+
   small_lawful : IsFlat (toy code) Any Any
   small_lawful = record {
     blank_of = λ s k of_ few. tt;
@@ -133,6 +138,7 @@ module _ (code : ℕ → List Deed) where
     works = λ n c of_ bound is. let h = moves n c in record { of_ = tt; thread = h.0; progress = h.1; waits = ap waits_by h.2 };
     goes_on = λ s c lives is stays. (acts s c c.rests c.deeds).on_ stays;
     leaves = λ s c lives is few. (acts s c c.rests c.deeds).left few;
+    clears = λ s hs of_ all home. clears_by s (nat_le 2 s.objects);
     sweeps = λ s hs of_ all home. let r = serves hs (record s { free = 2 }) in record { of_ = tt; kept = r.kept; threads = r.made; ends = λ k. ap (λ (ks : List ℕ). has ks k) r.ends };
   }
 

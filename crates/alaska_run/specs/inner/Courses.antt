@@ -183,4 +183,4 @@ pub record HasRun (x : Opened) (r : Ran) : Type 0 where
   pub keeps : BarriersKeep (arc_value x.code) x.settings r.journal.entries
   pub status : r.status ≡ status_of end
   pub output : r.output.items ≡ final.output
-  pub line : r.line.items ≡ report_text end final.report
+  pub line : r.line.items ≡ report_text x.settings.evacuate end final.report

@@ -22,7 +22,7 @@ use Rattle.flat_meaning.specs.Ready as stages
 use Rattle.flat_meaning.specs.Ready.{has_ended, takes_room}
 use Rattle.flat_meaning.specs.Stages.{Stage, waiting, landed}
 use Rattle.flat_meaning.specs.Words.{Words, target_of, word_at}
-use Rattle.flat_rules.specs.Lawful.{AreHome, IsHomeAt, IsOfRun, KeptAt, Sweeps}
+use Rattle.flat_rules.specs.Lawful.{AreHome, Clears, IsHomeAt, IsOfRun, KeptAt, Sweeps}
 use Rattle.flat_rules.specs.Machine.{blank, works}
 use Rattle.flat_threads.proofs.Standing.{behind_act}
 use Rattle.flat_threads.proofs.Threads.{SameCounts, same_counts, behind_is}
@@ -32,6 +32,7 @@ use Rattle.flat_threads.specs.Deeds.{stepped, thread_behind, top_at, with_word}
 use Rattle.flat_threads.specs.Waits.{waits_at}
 use Rattle.flat_threads.specs.declared.wait.Wait.TheVariants.{Room}
 use Rattle.flat_machine.specs.Choices.{action_choice, served_choice}
+use Rattle.flat_machine.specs.Clearing.{cleared_by, shared_cleared}
 use Rattle.flat_machine.specs.Machine.{machine_of, progress_of, stands_of}
 use Rattle.flat_machine.specs.Readiness.{wants_room}
 use Rattle.flat_machine.specs.Shares.{Shared, IsSharedOf, image_of}
@@ -318,7 +319,7 @@ module _ (code : LinearCode) where
   }
 
   -- what the rules ask of a barrier
-  pub sweeps : (s : Shared) (home : List (Option Context)) → IsSharedOf code s → All (IsOfRun (machine_of code) (IsContextOf code)) home → AreHome (machine_of code) s home → Sweeps (machine_of code) (IsSharedOf code) (IsContextOf code) s home
+  pub sweeps : (s : Shared) (home : List (Option Context)) → IsSharedOf code s → All (IsOfRun (machine_of code) (IsContextOf code)) home → AreHome (machine_of code) s home → Sweeps (machine_of code) (IsSharedOf code) (IsContextOf code) s home (swept_by code s home)
   sweeps s home shared all homes =
       let is = end_swept s home all homes in
       let state = end_state s home all homes in
@@ -327,4 +328,24 @@ module _ (code : LinearCode) where
         kept = zip_kept state.own home (λ k lt. is.kept k (omega (arith, lt, is.long))) (λ k le lt. kept_same (get_or home k None) (all k None lt) (rest_waits s k (get_or home k None) (all k None lt) (each_here (IsHomeAt (machine_of code) s) home k None homes.1 lt) (omega (arith, le, is.long))));
         threads = ap length is.threads;
         ends = λ k. ap (λ (ts : List Made). has_ended (slice_get ts k)) is.threads;
+      }
+
+  -- an evacuation leaves the threads and the program
+  shared_behind : (s : Shared) (home : List (Option Context)) (moved : Bool) → IsSharedOf code s → IsSharedOf code (shared_cleared (image_of code s) s (at_home s home) moved)
+  shared_behind s home true shared = shared_same s (shared_cleared (image_of code s) s (at_home s home) true) refl refl shared
+  shared_behind s home false shared = shared_same s (shared_cleared (image_of code s) s (at_home s home) false) refl shared.idle shared
+
+  threads_behind : (s : Shared) (home : List (Option Context)) (moved : Bool) → (shared_cleared (image_of code s) s (at_home s home) moved).memory.threads ≡ s.memory.threads
+  threads_behind s home true = refl
+  threads_behind s home false = refl
+
+  -- what the rules ask of an evacuation
+  pub clears : (s : Shared) (home : List (Option Context)) → IsSharedOf code s → Clears (machine_of code) (IsSharedOf code) s (cleared_by code s home)
+  clears s home shared =
+      let moved : Bool = (cleared_by code s home).moved in
+      let same = threads_behind s home moved in
+      record {
+        of_ = shared_behind s home moved shared;
+        threads = ap length same;
+        ends = λ k. ap (λ (ts : List Made). has_ended (slice_get ts k)) same;
       }

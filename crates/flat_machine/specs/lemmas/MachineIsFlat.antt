@@ -2,7 +2,7 @@
 use Rattle.std.proofs.Common.{refl}
 use Rattle.flat_machine.specs.Laws.{MachineIsFlat}
 use Rattle.flat_machine.specs.lemmas.Lawful.{begins, blank_of, few_served, works_on}
-use Rattle.flat_machine.specs.lemmas.Kept.{sweeps}
+use Rattle.flat_machine.specs.lemmas.Kept.{clears, sweeps}
 use Rattle.flat_machine.specs.lemmas.Goes.{goes_on}
 use Rattle.flat_machine.specs.lemmas.Leaves.{leaves}
 
@@ -19,4 +19,5 @@ machine_is_flat code = record {
   goes_on = goes_on code;
   leaves = leaves code;
   sweeps = sweeps code;
+  clears = λ s homes shared all are. clears code s homes shared;
 }

@@ -48,6 +48,7 @@ fn settings(subheap: u32, subheaps: u32, ids: u32, output: u32) -> Settings
         subheaps,
         ids,
         entries: 1_000_000,
+        evacuate: false,
         output,
         mode: Mode::Run,
         seed: None,

@@ -22,6 +22,7 @@ fn settings() -> Settings
         subheaps: 16,
         ids: 65536,
         entries: 1000,
+        evacuate: false,
         output: 1000,
         mode: Mode::Run,
         seed: None,

@@ -17,6 +17,7 @@ const SHORT_RUN: Report = Report {
     barriers: 0,
     moved_objects: 0,
     moved_bytes: 0,
+    emptied: 0,
     live_objects: 0,
     live_bytes: 0,
     extent: 0,
@@ -27,10 +28,21 @@ const SHORT_RUN: Report = Report {
 #[test]
 fn a_short_run(rt: HostRuntime) -> Result<(), Fail> {
     let mut text = Vec::with_capacity(rt.alloc(), 1_024)?;
-    push_report(&mut text, End::Done(0), &SHORT_RUN);
+    push_report(&mut text, false, End::Done(0), &SHORT_RUN);
     assert!(rt;
         text.as_slice()
             == b"ended: done 0\nthreads: 1\nentries: 2\nbarriers: 0\nmoved: 0 objects, 0 bytes\nlive: 0 objects, 0 bytes\nextent: 0 of 1048576\nlast barrier: none\n".as_slice()
+    );
+    Ok(())
+}
+
+#[test]
+fn a_run_with_evacuations(rt: HostRuntime) -> Result<(), Fail> {
+    let mut text = Vec::with_capacity(rt.alloc(), 1_024)?;
+    push_report(&mut text, true, End::Done(0), &SHORT_RUN);
+    assert!(rt;
+        text.as_slice()
+            == b"ended: done 0\nthreads: 1\nentries: 2\nbarriers: 0\nmoved: 0 objects, 0 bytes\nlive: 0 objects, 0 bytes\nextent: 0 of 1048576\nlast barrier: none\nevacuated: 0 sub-heaps\n".as_slice()
     );
     Ok(())
 }
@@ -45,6 +57,7 @@ fn the_greatest_numbers(rt: HostRuntime) -> Result<(), Fail> {
         barriers: most,
         moved_objects: most,
         moved_bytes: most,
+        emptied: u32::MAX,
         live_objects: u32::MAX,
         live_bytes: most,
         extent: most,
@@ -55,8 +68,8 @@ fn the_greatest_numbers(rt: HostRuntime) -> Result<(), Fail> {
             room: most,
         }),
     };
-    push_report(&mut text, End::Trap(most, TrapKind::Store), &report);
-    assert_eq!(rt; text.len(), 373);
+    push_report(&mut text, true, End::Trap(most, TrapKind::Store), &report);
+    assert_eq!(rt; text.len(), 405);
     Ok(())
 }
 

@@ -32,6 +32,7 @@ fn a_file_alone(rt: HostRuntime) -> Result<(), Fail> {
     assert_eq!(rt; settings.subheaps, 16);
     assert_eq!(rt; settings.ids, 65_536);
     assert_eq!(rt; settings.entries, 1_000_000);
+    assert!(rt; !settings.evacuate);
     assert_eq!(rt; settings.output, 1_048_576);
     assert!(rt; settings.mode == Mode::Run);
     assert_eq!(rt; settings.seed, None);
@@ -42,12 +43,13 @@ fn a_file_alone(rt: HostRuntime) -> Result<(), Fail> {
 #[test]
 fn options(rt: HostRuntime) -> Result<(), Fail> {
     let line =
-        "--workers 2 --every=8 a.c --schedule 18446744073709551615 --subheap 4096 --mode run";
+        "--workers 2 --every=8 a.c --schedule 18446744073709551615 --subheap 4096 --evacuate 1 --mode run";
     let settings = wanted(rt.alloc(), line)?.ok_or("wrong words")?;
     assert_eq!(rt; settings.workers, 2);
     assert_eq!(rt; settings.every, Some(8));
     assert_eq!(rt; settings.schedule, Some(u64::MAX));
     assert_eq!(rt; settings.subheap, 4_096);
+    assert!(rt; settings.evacuate);
     Ok(())
 }
 
@@ -59,6 +61,7 @@ fn wrong_words(rt: HostRuntime) -> Result<(), Fail> {
     are_wrong(&rt, rt.alloc(), "--mode churn --seed 1")?;
     are_wrong(&rt, rt.alloc(), "a.c --help")?;
     are_wrong(&rt, rt.alloc(), "a.c b.c")?;
+    are_wrong(&rt, rt.alloc(), "a.c --evacuate 2")?;
     are_wrong(&rt, rt.alloc(), "a.c --seed 1")?;
     Ok(())
 }

@@ -27,7 +27,7 @@ fn compact(arena: &mut Arena, words: &PinWords, pins: &mut Pins, plan: &mut Plan
     objects_are_counted();
     arena.pins_of(words, pins);
     slide(arena.heaps(), pins, plan);
-    arena.apply(plan, pins);
+    arena.apply(plan.moves(), pins);
 }
 
 // The same with pins and a plan of its own, which have room for so many. Gives the pins.

@@ -5,8 +5,8 @@ use Rattle.arena_meaning.specs.Moves.{after_plan}
 use Rattle.defrag_move.proofs.arena.Arena.apply.Given as goal
 
 -- the moves that are left are legal, and lead where all of them do
-abbrev pub invariant-loop-turn : goal.invariant-loop-turn
-invariant-loop-turn l = record {
-  legal : AreLegal (is_pinned l.pins) l.self.heaps (drop l.turn l.plan.moves);
-  same : after_plan (drop l.turn l.plan.moves) l.self ≡ after_plan l.plan.moves l.fn.self;
+abbrev pub invariant-loop-next : goal.invariant-loop-next
+invariant-loop-next l = record {
+  legal : AreLegal (is_pinned l.pins) l.self.heaps (drop l.next-index l.moves);
+  same : after_plan (drop l.next-index l.moves) l.self ≡ after_plan l.moves l.fn.self;
 }

@@ -1,7 +1,8 @@
-use Rattle.std.proofs.Common.{sym, ap, ◌∙◌, subst}
+use Rattle.std.proofs.Common.{◌≤◌, sym, ap, ◌∙◌, subst}
+use Rattle.std.specs.Vec.{vec_capacity}
 use Rattle.arena_meaning.specs.Arena.{IsConsistent, Storage}
 use Rattle.flat_meaning.specs.Memory.{words_leaving}
-use Rattle.flat_machine.proofs.Left.{most_kept, words_keep}
+use Rattle.flat_machine.proofs.Left.{count_kept, most_kept, words_keep}
 use Rattle.flat_machine.proofs.shared.Shared.leave.Goals as goal
 
 pub invariant_of-self : goal.invariant_of-self
@@ -22,4 +23,6 @@ invariant_of-self c =
       old.1,
       old.2,
       old.3,
+      subst (λ n. n ≤ vec_capacity c.self.inside.tails) (sym (ap (λ (s : Storage). s.heaps.count) c.leave.ensures.left ∙ count_kept words c.self.inside.arena)) old.4,
+      subst (λ n. n ≤ vec_capacity c.self.inside.moves) (sym (ap (λ (s : Storage). s.heaps.most) c.leave.ensures.left ∙ most_kept words c.self.inside.arena)) old.5,
     )

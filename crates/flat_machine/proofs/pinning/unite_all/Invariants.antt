@@ -1,7 +1,7 @@
 use Rattle.std.proofs.Common.{◌≡◌, ◌+◌, ◌*◌, ◌≤◌, ◌++◌, length, take}
 use Rattle.std.specs.Prelude.{flat_map}
 use Rattle.flat_machine.specs.inner.Swept.{handles_home}
-use Rattle.flat_machine.proofs.barriers.unite_all.Given as goal
+use Rattle.flat_machine.proofs.pinning.unite_all.Given as goal
 
 -- the handles of so many places
 abbrev pub invariant-loop-place : goal.invariant-loop-place
