@@ -16,7 +16,9 @@ use Rattle.block_store.specs.Runs.{Turn}
 use Rattle.c_tree.specs.Typed as tree
 use Rattle.c_tree.specs.TypedForm.{in_function}
 use Rattle.c_meaning.specs.Control as control
-use Rattle.c_meaning.specs.Control.{Control, Deed, Variable, Callee, Wait, wanted, dropped, Caller, TurnStart}
+use Rattle.c_meaning.specs.Control.{Control, Variable, Callee, Wait, wanted, dropped, Caller, TurnStart}
+use Rattle.race_rules.specs.declared.touch.Touch.{Touch}
+use Rattle.c_meaning.specs.Touches.{touches_of}
 use Rattle.c_meaning.specs.Library.{action_of, value_of_call, names_atomic}
 use Rattle.c_meaning.specs.Turns.{Now, Does, WayOfUse, Way, on_ok, plainly, stays, on_done, acts, after_call, begins_in, enters, calls_library, calls, result_of_call, number_in, returns_to, leaves_call, without_blocks}
 use Rattle.c_meaning.specs.Kinds.{HasType, HasTypeIf, HasKind, AllHold, IsCalled, StandBefore, IsTypedTodo, Expects, Awaits, IsTypedPoint, AreTypedCallers, IsTypedControl, IsTypedWorld}
@@ -88,16 +90,16 @@ plainly_fine s own w c h = record {
 
 -- the call under way goes on from a point
 abbrev pub stays_at : Site → List Variable → TurnStart → Control
-stays_at s locals point = record { function = s.number; locals = locals; point = point; callers = s.callers; deed = None }
+stays_at s locals point = record { function = s.number; locals = locals; point = point; callers = s.callers; touched = [] }
 
--- and has done something
-abbrev pub acted_at : Site → Deed → List Variable → TurnStart → Control
-acted_at s d locals point = record { function = s.number; locals = locals; point = point; callers = s.callers; deed = Some d }
+-- and has touched this
+abbrev pub acted_at : Site → List Touch → List Variable → TurnStart → Control
+acted_at s d locals point = record { function = s.number; locals = locals; point = point; callers = s.callers; touched = d }
 
 pub stays_typed : (s : Site) (locals : List Variable) (point : TurnStart) → Stands s → AllHold s.func.locals locals → IsTypedPoint (inside_at s) point → IsTypedControl s.typed (stays_at s locals point)
 stays_typed s locals point f h p = record { func = s.func; found = f.found; locals = h; point = p; callers = f.callers }
 
-on_done_typed : (s : Site) (place : ℕ) (e : Deed) (P : Option Value → Type 0) (locals : List Variable) (point : Option Value → TurnStart) (d : Done) → Stands s → AllHold s.func.locals locals → DoneWith s.typed P d
+on_done_typed : (s : Site) (place : ℕ) (e : List Touch) (P : Option Value → Type 0) (locals : List Variable) (point : Option Value → TurnStart) (d : Done) → Stands s → AllHold s.func.locals locals → DoneWith s.typed P d
     → ((v : Option Value) → P v → IsTypedPoint (inside_at s) (point v)) → IsTypedTurn s.typed (on_done place (λ v next. runs.went (acted_at s e locals (point v)) next) d)
 on_done_typed s place e P locals point (actions.went v w) f h d p = (record { func = s.func; found = f.found; locals = h; point = p v d.0; callers = f.callers }, d.1)
 on_done_typed s place e P locals point actions.blocked f h d p = tt
@@ -116,9 +118,9 @@ pub acts_fine : (s : Site) (place : ℕ) (atomic : Bool) (action : SharedAction)
     → ((answer : Answer) (v : Option Value) → P v → IsTypedPoint (inside_at s) (point answer v))
     → (x : Now) → IsNow s x → Fine s (λ answer. acts (here_at s answer) place atomic action (λ v next. stays (here_at s answer) x.locals (point answer v) next) x)
 acts_fine s place atomic action P point f does goes x n = record {
-  typed = λ answer. on_done_typed s place (record { place = place; atomic = atomic; action = action }) P x.locals (point answer) (acted x.world s.thread answer action) f n.locals (does x.world answer n.world) (goes answer);
+  typed = λ answer. on_done_typed s place (touches_of place x.world answer atomic action) P x.locals (point answer) (acted x.world s.thread answer action) f n.locals (does x.world answer n.world) (goes answer);
   end = acting place action x.world;
-  ends = λ answer. on_done_comes place (λ v. acted_at s (record { place = place; atomic = atomic; action = action }) x.locals (point answer v)) (acted x.world s.thread answer action);
+  ends = λ answer. on_done_comes place (λ v. acted_at s (touches_of place x.world answer atomic action) x.locals (point answer v)) (acted x.world s.thread answer action);
 }
 
 pub after_typed : (s : Site) (ty : tree.Ty) (k : Wait) (v : Option Value) → Awaits (inside_at s) ty k → HasTypeIf ty v → IsTypedPoint (inside_at s) (after_call k v)
@@ -180,7 +182,7 @@ returns_fine s v w [] h cs n = record {
   ends = λ answer. returns_comes 0 (acted w s.thread answer (actions.finish (number_in v)));
 }
 returns_fine s v w (c ∷ callers) h cs n =
-    plainly_fine s (λ answer. record { function = c.function; locals = c.locals; point = after_call c.wait v; callers = callers; deed = None }) w
+    plainly_fine s (λ answer. record { function = c.function; locals = c.locals; point = after_call c.wait v; callers = callers; touched = [] }) w
     (λ answer. record {
       func = cs.0;
       found = cs.1.found;

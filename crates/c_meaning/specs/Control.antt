@@ -1,10 +1,10 @@
 -- Where a thread of the source is: a stack of calls, each with its locals and a list of what is left to do.
 use Rattle.std.specs.Prelude.{ℕ, Bool, List, Option}
 use Rattle.ak_words.specs.declared.operation.Op.{Op}
-use Rattle.block_store.specs.Actions.{SharedAction}
 use Rattle.block_store.specs.declared.values.Access.{Access}
 use Rattle.block_store.specs.declared.values.Value.{Value}
 use Rattle.c_tree.specs.Typed as tree
+use Rattle.race_rules.specs.declared.touch.Touch.{Touch}
 use Rattle.c_meaning.specs.Values.{Unary, Binary}
 
 -- a local: it has no value or no block yet; it has a value; or it is a block (an object in memory)
@@ -100,16 +100,10 @@ pub data TurnStart : Type 0 where
   begins : (k : Todo) → TurnStart
   round : (l : Loop) (k : Todo) → TurnStart
 
--- what was done: an action, the place of the expression that names what it reaches, and whether that is an atomic object
-pub record Deed : Type 0 where
-  pub place : ℕ
-  pub atomic : Bool
-  pub action : SharedAction
-
--- a thread's own: the call under way, where it is, the calls that wait, the nearest first, and what was done in its last turn
+-- a thread's own: the call under way, where it is, the calls that wait, the nearest first, and what its last turn touched
 pub record Control : Type 0 where
   pub function : ℕ
   pub locals : List Variable
   pub point : TurnStart
   pub callers : List Caller
-  pub deed : Option Deed
+  pub touched : List Touch

@@ -1,5 +1,5 @@
 -- The definitions of types put to the test: what is of a type, and what isn't, told by hand.
-use Rattle.std.specs.Prelude.{[], ◌∷◌, None, pos}
+use Rattle.std.specs.Prelude.{[], ◌∷◌, pos}
 use Rattle.ak_words.specs.declared.operation.Op.TheVariants as ops
 use Rattle.ak_words.specs.IntType.{char, int, long}
 use Rattle.ak_words.specs.Num.{num}
@@ -33,12 +33,12 @@ multiplying a b = record {
   locals = holds an_int ∷ holds an_int ∷ [];
   point = gives b (second_of 0 (on_numbers ops.Mul) a (to_local 0 leaves));
   callers = [];
-  deed = None;
+  touched = [];
 }
 
 -- main, where its two locals hold these
 abbrev pub holding : (a b : Variable) → Control
-holding a b = record { function = 0; locals = a ∷ b ∷ []; point = begins leaves; callers = []; deed = None }
+holding a b = record { function = 0; locals = a ∷ b ∷ []; point = begins leaves; callers = []; touched = [] }
 
 -- an int is an int, and no char, no pointer and nothing of type void; a null pointer is of each pointer type
 pub record ValuesAreTold : Type 0 where

@@ -23,11 +23,13 @@ use Rattle.block_store.specs.Runs.{Turn, went, ended, blocked, unfit, broke}
 use Rattle.c_tree.specs.Typed as tree
 use Rattle.c_tree.specs.TypedLayout.{size_in, align_in}
 use Rattle.c_meaning.specs.Values.{access_of_type, is_scalar, is_atomic, is_minus, element_size, member_offset, int_of, truth_of, Unary, converts, negates, tests, selects, Binary, on_numbers, forward, backward, distance, on_pointers, of_one, of_two, updated}
+use Rattle.race_rules.specs.declared.touch.Touch.{Touch}
+use Rattle.c_meaning.specs.Touches.{touches_of}
 use Rattle.c_meaning.specs.Library.{changed_by, action_of, value_of_call, names_atomic}
 use Rattle.c_meaning.specs.Switches.{chosen, starts_at}
 use Rattle.c_meaning.specs.Control.{Variable, unset, holds, lies, Loop, Update, Callee, function, library, Todo, leaves, then_row, then_end, then_loop, in_body, in_step, in_switch}
 use Rattle.c_meaning.specs.Control.{Use, first_of, second_of, only_of, place_read, first_test, second_test, choice, argument, to_local, left_place, to_place, struct_left, struct_right, update_left, update_local, update_right, update_read, if_test, loop_test, switch_test, to_caller, to_nowhere}
-use Rattle.c_meaning.specs.Control.{Wait, wanted, dropped, Caller, TurnStart, gives, lacks, begins, round, Deed, Control}
+use Rattle.c_meaning.specs.Control.{Wait, wanted, dropped, Caller, TurnStart, gives, lacks, begins, round, Control}
 
 -- what stays the same in a turn: the program, the thread's number, the answer that the turn is told, and the function and the callers
 -- of the call under way
@@ -74,15 +76,15 @@ plainly answers.None t = unfit
 
 -- the call under way goes on from a point in its next turn
 abbrev pub stays : TurnContext → List Variable → TurnStart → World → Turn Control
-stays h locals point w = went (record { function = h.function; locals = locals; point = point; callers = h.callers; deed = None }) w
+stays h locals point w = went (record { function = h.function; locals = locals; point = point; callers = h.callers; touched = [] }) w
 
--- the thread keeps what it did
-abbrev pub having_done : Deed → Turn Control → Turn Control
-having_done d (went c w) = went (record { function = c.function; locals = c.locals; point = c.point; callers = c.callers; deed = Some d }) w
-having_done d (ended w) = ended w
-having_done d blocked = blocked
-having_done d unfit = unfit
-having_done d (broke rule place) = broke rule place
+-- the thread keeps what it touched
+abbrev pub having_touched : List Touch → Turn Control → Turn Control
+having_touched touched (went c w) = went (record { function = c.function; locals = c.locals; point = c.point; callers = c.callers; touched = touched }) w
+having_touched touched (ended w) = ended w
+having_touched touched blocked = blocked
+having_touched touched unfit = unfit
+having_touched touched (broke rule place) = broke rule place
 
 -- how an action comes out
 abbrev pub on_done : (place : ℕ) → (Option Value → World → Turn Control) → actions.Done → Turn Control
@@ -94,7 +96,7 @@ on_done place go (actions.broke rule) = broke rule place
 -- an action is done, and ends the turn; at this place it is named what the action reaches, which is an atomic object or not
 abbrev pub acts : TurnContext → (place : ℕ) → (atomic : Bool) → SharedAction → (Option Value → World → Turn Control) → Does
 acts h place atomic action go x =
-    on_done place (λ v w. having_done (record { place = place; atomic = atomic; action = action }) (go v w)) (actions.acted x.world h.thread h.answer action)
+    on_done place (λ v w. having_touched (touches_of place x.world h.answer atomic action) (go v w)) (actions.acted x.world h.thread h.answer action)
 
 -- what a call's value leads to
 abbrev pub after_call : Wait → Option Value → TurnStart
@@ -205,7 +207,7 @@ first_locals f args = map holds args ++ replicate (length f.locals - length args
 
 -- where a thread stands that has just entered a function: before the first statement of its body, above these callers
 abbrev pub begins_in : (function : ℕ) → tree.Func → List Value → (callers : List Caller) → Control
-begins_in number f args callers = record { function = number; locals = first_locals f args; point = begins (then_row f.body leaves); callers = callers; deed = None }
+begins_in number f args callers = record { function = number; locals = first_locals f args; point = begins (then_row f.body leaves); callers = callers; touched = [] }
 
 -- a function is entered
 abbrev pub enters : TurnContext → (function : ℕ) → List Value → Wait → Now → Option tree.Func → Turn Control
@@ -237,7 +239,7 @@ number_in None = None
 -- a call is left: the thread goes on in the caller, or its first function has returned, which is an action
 abbrev pub returns_to : TurnContext → Option Value → World → List Caller → Turn Control
 returns_to h v w [] = on_done 0 (λ u next. ended next) (actions.acted w h.thread h.answer (actions.finish (number_in v)))
-returns_to h v w (c ∷ callers) = plainly h.answer (went (record { function = c.function; locals = c.locals; point = after_call c.wait v; callers = callers; deed = None }) w)
+returns_to h v w (c ∷ callers) = plainly h.answer (went (record { function = c.function; locals = c.locals; point = after_call c.wait v; callers = callers; touched = [] }) w)
 
 -- its locals end
 abbrev pub leaves_call : TurnContext → Option Value → Does
