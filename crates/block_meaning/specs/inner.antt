@@ -1,3 +1,4 @@
 -- What only bodies use.
 pub mod Turns
 pub mod Starts
+pub mod Touches

@@ -18,7 +18,7 @@ use Rattle.c_tree.specs.TypedForm.{IsScalar, IsNth, IsLvalue, IsInMemory, IsType
 use Rattle.c_meaning.specs.Control as control
 use Rattle.c_meaning.specs.Control.{Variable, Callee, Wait, wanted}
 use Rattle.c_meaning.specs.Values as reads
-use Rattle.c_meaning.specs.Values.{access_of_type, truth_of, int_of, Unary, Binary}
+use Rattle.c_meaning.specs.Values.{access_of_type, is_atomic, truth_of, int_of, Unary, Binary}
 use Rattle.c_meaning.specs.Turns.{Does, WayOfUse, after_call, variable_at, pointer_in, read_way, only_way, second_way, first_way, second_test_way, is_same, first_test_way, choice_way, argument_way, reads_variable, finds_variable, run, run_node, run_place, run_place_node, run_arguments}
 use Rattle.c_meaning.specs.Kinds.{HasKind, HasTypeIf, MayHold, TakesOne, TakesTwo, IsCalled, StandBefore, Awaits}
 use Rattle.c_meaning.proofs.TypedValues.{not_c4, Anything, kind_type, type_kind, truth_ok, of_one_ok, of_two_ok, number_operands, on_numbers_taken, forward_taken, backward_taken, distance_taken, on_pointers_taken, converts_taken, converts_values, HasValues, scalar_values, integer_scalar, pointer_scalar, pointer_access, sized_pointer, moved_scalar}
@@ -43,11 +43,11 @@ kind_at e = access_of_type (tree.type_of e)
 
 -- ---- uses of a value in an expression
 
-pub read_takes : (s : Site) (place : ℕ) (ty : tree.Ty) (w : Answer → WayOfUse) → Stands s → HasValues ty → TakesKind s (access_of_type ty) w → TakesKind s accesses.Pointer (λ answer. read_way (here_at s answer) place (access_of_type ty) (w answer))
-read_takes s place ty w f scalar g = record {
+pub read_takes : (s : Site) (place : ℕ) (ty : tree.Ty) (atomic : Bool) (w : Answer → WayOfUse) → Stands s → HasValues ty → TakesKind s (access_of_type ty) w → TakesKind s accesses.Pointer (λ answer. read_way (here_at s answer) place (access_of_type ty) atomic (w answer))
+read_takes s place ty atomic w f scalar g = record {
   expects = λ answer. (refl, g.expects answer);
   goes = λ v h x n.
-      acts_fine s place (actions.load (pointer_in v) (access_of_type ty)) (HasTypeIf ty) (λ answer u. after_call (wanted place (w answer).k) u) f
+      acts_fine s place atomic (actions.load (pointer_in v) (access_of_type ty)) (HasTypeIf ty) (λ answer u. after_call (wanted place (w answer).k) u) f
       (λ world answer i. load_done s.typed ty world s.thread answer (pointer_in v) scalar i)
       (λ answer u i. after_typed s ty (wanted place (w answer).k) u (g.expects answer) i) x n;
 }
@@ -100,7 +100,7 @@ choice_takes s place how one other run_one run_other w t u scalar same p q g = r
 reads_fine : (s : Site) (place : ℕ) (l : tree.Local) (w : Answer → WayOfUse) (v : Variable) → Stands s → HasValues l.ty → MayHold l v → TakesKind s (access_of_type l.ty) w → IsFine s (λ answer. reads_variable (here_at s answer) place l.ty (w answer) v)
 reads_fine s place l w control.unset f scalar h g x n = breaks_fine s C4 place not_c4
 reads_fine s place l w (control.holds v) f scalar h g x n = g.goes v (type_kind l.ty v h.1) x n
-reads_fine s place l w (control.lies block) f scalar h g x n = (read_takes s place l.ty w f scalar g).goes (block_value block) tt x n
+reads_fine s place l w (control.lies block) f scalar h g x n = (read_takes s place l.ty (is_atomic l.ty) w f scalar g).goes (block_value block) tt x n
 
 local_fine : (s : Site) (place number : ℕ) (ty : tree.Ty) → Stands s → IsNth s.func.locals number (λ l. l.ty ≡ ty) → HasValues ty → Evaluates s (access_of_type ty) (λ answer w x. reads_variable (here_at s answer) place ty w (variable_at x number) x)
 local_fine s place number ty f l scalar w g x n =
@@ -162,17 +162,17 @@ mutual
   pub run_node_fine : (s : Site) → Stands s → (place : ℕ) (ty : tree.Ty) (node : tree.ExprNode) → IsTypedNode (context_at s) ty node → HasValues ty → Evaluates s (access_of_type ty) (λ answer. run_node (here_at s answer) place ty node)
   run_node_fine s f place ty (tree.num t z) h scalar w g x n = g.goes (number_value t z) (subst (λ u. HasKind (access_of_type u) (number_value t z)) (sym h.0) refl) x n
   run_node_fine s f place ty tree.null h scalar w g x n = g.goes (values.Pointer Null) (subst (λ a. HasKind a (values.Pointer Null)) (sym (pointer_access ty h)) tt) x n
-  run_node_fine s f place ty (tree.literal number) h scalar w g x n = (read_takes s place ty w f scalar g).goes (block_value (length s.typed.globals + number)) tt x n
-  run_node_fine s f place ty (tree.global number) h scalar w g x n = (read_takes s place ty w f scalar g).goes (block_value number) tt x n
+  run_node_fine s f place ty (tree.literal number) h scalar w g x n = (read_takes s place ty (is_atomic ty) w f scalar g).goes (block_value (length s.typed.globals + number)) tt x n
+  run_node_fine s f place ty (tree.global number) h scalar w g x n = (read_takes s place ty (is_atomic ty) w f scalar g).goes (block_value number) tt x n
   run_node_fine s f place ty (tree.local number) h scalar w g x n = local_fine s place number ty f h scalar w g x n
   run_node_fine s f place ty (tree.deref e) h scalar w g x n =
       let pointer = subst type.IsPointer (sym h.1) tt in
       evaluates_as s (kind_at e) accesses.Pointer (λ answer. run (here_at s answer) e) (pointer_access (tree.type_of e) pointer) (run_fine s f e h.0 (pointer_scalar (tree.type_of e) pointer))
-      (λ answer. read_way (here_at s answer) place (access_of_type ty) (w answer)) (read_takes s place ty w f scalar g) x n
+      (λ answer. read_way (here_at s answer) place (access_of_type ty) (is_atomic ty) (w answer)) (read_takes s place ty (is_atomic ty) w f scalar g) x n
   run_node_fine s f place ty (tree.member e number) h scalar w g x n =
       let op = reads.selects (reads.member_offset s.typed.structs (tree.type_of e) number) in
-      run_place_fine s f e h.0 h.1 (λ answer. only_way place op (read_way (here_at s answer) place (access_of_type ty) (w answer)))
-      (only_takes s place op accesses.Pointer accesses.Pointer (λ answer. read_way (here_at s answer) place (access_of_type ty) (w answer)) refl (read_takes s place ty w f scalar g)) x n
+      run_place_fine s f e h.0 h.1 (λ answer. only_way place op (read_way (here_at s answer) place (access_of_type ty) (is_atomic ty) (w answer)))
+      (only_takes s place op accesses.Pointer accesses.Pointer (λ answer. read_way (here_at s answer) place (access_of_type ty) (is_atomic ty) (w answer)) refl (read_takes s place ty (is_atomic ty) w f scalar g)) x n
   run_node_fine s f place ty (tree.address_of e) h scalar w g x n =
       run_place_fine s f e h.0 (in_memory_lvalue (context_at s) (tree.node_of e) h.1) w (takes_as s (access_of_type ty) accesses.Pointer w (ap access_of_type h.2) g) x n
   run_node_fine s f place ty (tree.decay e) h scalar w g x n =

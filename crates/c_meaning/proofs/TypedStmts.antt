@@ -22,7 +22,7 @@ use Rattle.c_meaning.specs.Control.{Variable, Loop, Update, Callee, dropped, wan
 use Rattle.c_meaning.specs.Values.{access_of_type, is_scalar, is_atomic, is_minus, truth_of, updated}
 use Rattle.c_meaning.specs.Library.{addend, changed_by}
 use Rattle.c_meaning.specs.Switches.{chosen, starts_at}
-use Rattle.c_meaning.specs.Turns.{Does, Way, after_call, local_at, is_block, variable_at, with_variable, ended_local, ended_locals, made_local, declared_local, declared, declared_by, pointer_in, run, run_node, run_place, run_place_node, run_arguments, nowhere_way, drops_object, run_dropped, run_dropped_node, local_way, place_way, left_way, struct_right_way, struct_left_way, is_struct, assigns_object, assigns, update_read_way, update_reads, update_changes, update_right_way, update_left_way, updates_variable, update_local_way, updates, initialises, declares, caller_way, returns, if_way, nothing, row_way, end_way, round_over, step_way, body_way, loop_test_way, rounds_if, rounds, loop_way, while_loop, for_loop, do_loop, leaving, switch_way, starts, switch_test_way, update_of, run_stmt, run_stmt_node, run_row, run_from}
+use Rattle.c_meaning.specs.Turns.{Does, Way, after_call, local_at, is_block, is_atomic_local, variable_at, with_variable, ended_local, ended_locals, made_local, declared_local, declared, declared_by, pointer_in, run, run_node, run_place, run_place_node, run_arguments, nowhere_way, drops_object, run_dropped, run_dropped_node, local_way, place_way, left_way, struct_right_way, struct_left_way, is_struct, assigns_object, assigns, update_read_way, update_reads, update_changes, update_right_way, update_left_way, updates_variable, update_local_way, updates, initialises, declares, caller_way, returns, if_way, nothing, row_way, end_way, round_over, step_way, body_way, loop_test_way, rounds_if, rounds, loop_way, while_loop, for_loop, do_loop, leaving, switch_way, starts, switch_test_way, update_of, run_stmt, run_stmt_node, run_row, run_from}
 use Rattle.c_meaning.specs.Kinds.{HasKind, HasTypeIf, MayHold, UpdatesBy, IsNumberKind, IsCalled, IsWellSomewhere, AreWellSomewhere, IsTypedLoop}
 use Rattle.c_meaning.proofs.TypedValues.{not_c4, Anything, scalar_values, kind_type, type_kind, fits_kind, truth_ok, updated_ok, updates_scalar, updates_plain, updates_number}
 use Rattle.c_meaning.proofs.TypedLocals.{Site, here_at, inside_at, Stands, hold_at, with_now, unset_now, ended_locals_now, local_found, made_now, declared_now}
@@ -66,17 +66,17 @@ local_takes s number how w f r g = record {
   goes = λ v h x n. g.ends (with_variable number (control.holds v) x) (with_now s number (control.holds v) x n (register_holds s f number how r v h));
 }
 
-pub place_takes : (s : Site) (place : ℕ) (to : Value) (how : Access) (w : Answer → Way) → Stands s → HasKind accesses.Pointer to → Follows s w → TakesKind s how (λ answer. place_way (here_at s answer) place to (w answer))
-place_takes s place to how w f p g = record {
+pub place_takes : (s : Site) (place : ℕ) (atomic : Bool) (to : Value) (how : Access) (w : Answer → Way) → Stands s → HasKind accesses.Pointer to → Follows s w → TakesKind s how (λ answer. place_way (here_at s answer) place atomic to (w answer))
+place_takes s place atomic to how w f p g = record {
   expects = λ answer. (p, g.todo answer);
-  goes = λ v h x n. acts_fine s place (actions.store (pointer_in to) v) IsNoValue (λ answer u. control.begins (w answer).k) f
+  goes = λ v h x n. acts_fine s place atomic (actions.store (pointer_in to) v) IsNoValue (λ answer u. control.begins (w answer).k) f
       (λ world answer i. store_done s.typed world s.thread answer (pointer_in to) v i) (λ answer u e. g.todo answer) x n;
 }
 
-pub left_takes : (s : Site) (place : ℕ) (right : tree.Expr) (w : Answer → Way) → Stands s → IsTyped (context_at s) right → IsScalar (tree.type_of right) → Follows s w → TakesKind s accesses.Pointer (λ answer. left_way (here_at s answer) place right (w answer))
-left_takes s place right w f t scalar g = record {
+pub left_takes : (s : Site) (place : ℕ) (atomic : Bool) (right : tree.Expr) (w : Answer → Way) → Stands s → IsTyped (context_at s) right → IsScalar (tree.type_of right) → Follows s w → TakesKind s accesses.Pointer (λ answer. left_way (here_at s answer) place atomic right (w answer))
+left_takes s place atomic right w f t scalar g = record {
   expects = λ answer. (refl, t, scalar, g.todo answer);
-  goes = λ v h x n. run_fine s f right t scalar (λ answer. place_way (here_at s answer) place v (w answer)) (place_takes s place v (kind_at right) w f h g) x n;
+  goes = λ v h x n. run_fine s f right t scalar (λ answer. place_way (here_at s answer) place atomic v (w answer)) (place_takes s place atomic v (kind_at right) w f h g) x n;
 }
 
 pub struct_right_takes : (s : Site) (place : ℕ) (ty : tree.Ty) (to : Value) (w : Answer → Way) → Stands s → HasKind accesses.Pointer to → Follows s w → TakesKind s accesses.Pointer (λ answer. struct_right_way (here_at s answer) place ty to (w answer))
@@ -85,7 +85,7 @@ struct_right_takes s place ty to w f p g = record {
   goes = λ v h x n.
       let size = size_in s.typed.structs ty in
       let align = align_in s.typed.structs ty in
-      acts_fine s place (actions.copy (pointer_in to) (pointer_in v) size align true) IsNoValue (λ answer u. control.begins (w answer).k) f
+      acts_fine s place false (actions.copy (pointer_in to) (pointer_in v) size align true) IsNoValue (λ answer u. control.begins (w answer).k) f
       (λ world answer i. copy_done s.typed world s.thread answer (pointer_in to) (pointer_in v) size align true i) (λ answer u e. g.todo answer) x n;
 }
 
@@ -99,9 +99,9 @@ assigns_object_fine : (s : Site) (left right : tree.Expr) → Stands s → IsTyp
 assigns_object_fine s left right f t u l fit w g =
     let place = tree.place_of left in
     let ty = tree.type_of left in
-    does_if_fine s (is_struct ty) (λ answer. run_place (here_at s answer) left (struct_left_way (here_at s answer) place ty right (w answer))) (λ answer. run_place (here_at s answer) left (left_way (here_at s answer) place right (w answer)))
+    does_if_fine s (is_struct ty) (λ answer. run_place (here_at s answer) left (struct_left_way (here_at s answer) place ty right (w answer))) (λ answer. run_place (here_at s answer) left (left_way (here_at s answer) place (is_atomic ty) right (w answer)))
     (λ b. run_place_fine s f left t l (λ answer. struct_left_way (here_at s answer) place ty right (w answer)) (struct_left_takes s place ty right w f u (struct_expr_lvalue s f right u (fits_struct (tree.type_of right) ty fit b)) g))
-    (λ b. run_place_fine s f left t l (λ answer. left_way (here_at s answer) place right (w answer)) (left_takes s place right w f u (fits_no_struct (tree.type_of right) ty fit b) g))
+    (λ b. run_place_fine s f left t l (λ answer. left_way (here_at s answer) place (is_atomic ty) right (w answer)) (left_takes s place (is_atomic ty) right w f u (fits_no_struct (tree.type_of right) ty fit b) g))
 
 assigns_local_fine : (s : Site) (place number : ℕ) (ty : tree.Ty) (right : tree.Expr) → Stands s → IsTypedNode (context_at s) ty (tree.local number) → IsTyped (context_at s) right → Fits (tree.type_of right) ty
     → Executes s (λ answer. assigns (here_at s answer) (tree.local number) (tree.at place ty (tree.local number)) right)
@@ -136,13 +136,13 @@ by_kind s u how can v h = subst (λ (a : Access). HasKind a v) (sym can.2) h
 pub update_read_takes : (s : Site) (u : Update) (at by : Value) (how : Access) (w : Answer → Way) → Stands s → IsScalar u.ty → HasKind accesses.Pointer at → UpdatesBy (inside_at s) u how → HasKind how by → Follows s w → TakesKind s (access_of_type u.ty) (λ answer. update_read_way (here_at s answer) u at by (w answer))
 update_read_takes s u at by how w f plain p can b g = record {
   expects = λ answer. (plain, refl, p, (how, can, b), g.todo answer);
-  goes = λ v h x n. ok_fine s u.operator (HasKind (access_of_type u.ty)) (λ answer r. (place_way (here_at s answer) u.place at (w answer)).go r x) (updated s.typed.structs x.world.blocks u.ty u.op v by)
-      (updated_ok s.typed.structs x.world.blocks u.op u.ty can.0 v by plain can.1 h (by_kind s u how can by b)) (λ r i. (place_takes s u.place at (access_of_type u.ty) w f p g).goes r i x n);
+  goes = λ v h x n. ok_fine s u.operator (HasKind (access_of_type u.ty)) (λ answer r. (place_way (here_at s answer) u.place false at (w answer)).go r x) (updated s.typed.structs x.world.blocks u.ty u.op v by)
+      (updated_ok s.typed.structs x.world.blocks u.op u.ty can.0 v by plain can.1 h (by_kind s u how can by b)) (λ r i. (place_takes s u.place false at (access_of_type u.ty) w f p g).goes r i x n);
 }
 
 update_reads_fine : (s : Site) (u : Update) (at by : Value) (how : Access) (w : Answer → Way) → Stands s → IsScalar u.ty → HasKind accesses.Pointer at → UpdatesBy (inside_at s) u how → HasKind how by → Follows s w → IsFine s (λ answer. update_reads (here_at s answer) u at by (w answer))
 update_reads_fine s u at by how w f plain p can b g =
-    acts_fine s u.place (actions.load (pointer_in at) (access_of_type u.ty)) (HasTypeIf u.ty) (λ answer r. after_call (wanted u.place (control.update_read u at by (w answer).k)) r) f
+    acts_fine s u.place false (actions.load (pointer_in at) (access_of_type u.ty)) (HasTypeIf u.ty) (λ answer r. after_call (wanted u.place (control.update_read u at by (w answer).k)) r) f
     (λ world answer i. load_done s.typed u.ty world s.thread answer (pointer_in at) (scalar_values u.ty plain) i)
     (λ answer r i. after_typed s u.ty (wanted u.place (control.update_read u at by (w answer).k)) r (plain, refl, p, (how, can, b), g.todo answer) i)
 
@@ -154,7 +154,7 @@ number_of_kind ty v i h = elim i [ ]
 
 changes_fine : (s : Site) (u : Update) (ty : IntType) (at : Ptr) (by : ℤ) (w : Answer → Way) → Stands s → Follows s w → IsFine s (λ answer. update_changes (here_at s answer) u (w answer) (Some (actions.change at ty Add by)))
 changes_fine s u ty at by w f g =
-    acts_fine s u.place (actions.change at ty Add by) (HasTypeIf (tree.integer ty)) (λ answer old. control.begins (w answer).k) f
+    acts_fine s u.place true (actions.change at ty Add by) (HasTypeIf (tree.integer ty)) (λ answer old. control.begins (w answer).k) f
     (λ world answer i. change_done s.typed ty world s.thread answer at Add by i) (λ answer old i. g.todo answer)
 
 update_changes_fine : (s : Site) (u : Update) (away : Bool) (at : Ptr) (n : Num) (w : Answer → Way) → Stands s → Follows s w → IsFine s (λ answer. update_changes (here_at s answer) u (w answer) (changed_by away at (values.Num n)))
@@ -238,8 +238,9 @@ initialises_fine : (s : Site) (place number : ℕ) (init : tree.Expr) → Stands
 initialises_fine s place number init f t l w g x n =
     let block = is_block (local_at (here_at s answers.Plain) number) in
     let to = block_value (length (ended_local number x).world.blocks) in
-    if_fine s block (λ answer. run (here_at s answer) init (place_way (here_at s answer) place to (w answer)) (made_local (here_at s answers.Plain) number x)) (λ answer. run (here_at s answer) init (local_way number (w answer)) (with_variable number control.unset x))
-    (λ b. run_fine s f init t l.2.1 (λ answer. place_way (here_at s answer) place to (w answer)) (place_takes s place to (kind_at init) w f tt g) (made_local (here_at s answers.Plain) number x) (made_now s f answers.Plain number x b n))
+    let atomic = is_atomic_local (local_at (here_at s answers.Plain) number) in
+    if_fine s block (λ answer. run (here_at s answer) init (place_way (here_at s answer) place atomic to (w answer)) (made_local (here_at s answers.Plain) number x)) (λ answer. run (here_at s answer) init (local_way number (w answer)) (with_variable number control.unset x))
+    (λ b. run_fine s f init t l.2.1 (λ answer. place_way (here_at s answer) place atomic to (w answer)) (place_takes s place atomic to (kind_at init) w f tt g) (made_local (here_at s answers.Plain) number x) (made_now s f answers.Plain number x b n))
     (λ b. run_fine s f init t l.2.1 (λ answer. local_way number (w answer))
     (local_takes s number (kind_at init) w f (l.0, l.1, (in_memory_is s f number false l.0 l.1 b, sym (fits_kind (tree.type_of init) l.0.ty l.2.0))) g) (with_variable number control.unset x) (unset_now s number x n))
 

@@ -1,5 +1,5 @@
 -- Whole turns of a thread come out well, and threads begin so.
-use Rattle.std.proofs.Common.{◌≡◌, ◌↔◌, ℕ, zero, suc, ◌^◌, ◌<◌, ◌≤◌, false, List, Option, None, Ok, Err, refl, sym, subst, ◌⊎◌, inl, inr, arith}
+use Rattle.std.proofs.Common.{◌≡◌, Bool, ◌↔◌, ℕ, zero, suc, ◌^◌, ◌<◌, ◌≤◌, false, List, Option, None, Ok, Err, refl, sym, subst, ◌⊎◌, inl, inr, arith}
 use Rattle.std.specs.Prelude.{Result}
 use Rattle.ak_words.specs.declared.rule.Rule.{Rule}
 use Rattle.ak_words.specs.IntType.{int}
@@ -51,9 +51,9 @@ way_follows s f (control.in_switch k) t = switch_follows s (λ answer. way_of (h
 -- ---- uses
 
 -- each kind is that of a type
-read_any : (s : Site) (place : ℕ) (how : Access) (w : Answer → WayOfUse) → Stands s → TakesKind s how w → TakesKind s accesses.Pointer (λ answer. read_way (here_at s answer) place how (w answer))
-read_any s place (accesses.Number t) w f g = read_takes s place (tree.integer t) w f tt g
-read_any s place accesses.Pointer w f g = read_takes s place (tree.pointer tree.void) w f tt g
+read_any : (s : Site) (place : ℕ) (how : Access) (atomic : Bool) (w : Answer → WayOfUse) → Stands s → TakesKind s how w → TakesKind s accesses.Pointer (λ answer. read_way (here_at s answer) place how atomic (w answer))
+read_any s place (accesses.Number t) atomic w f g = read_takes s place (tree.integer t) atomic w f tt g
+read_any s place accesses.Pointer atomic w f g = read_takes s place (tree.pointer tree.void) atomic w f tt g
 
 takes_of : (s : Site) (how to : Access) (w : Answer → WayOfUse) → how ≡ to → TakesKind s to w → TakesKind s how w
 takes_of s how to w e g = let P : Access → Type 0 = λ a. TakesKind s a w in subst P (sym e) g
@@ -63,8 +63,8 @@ use_takes s f (control.first_of place op right k) how t =
     first_takes s place op how t.2.0 right (λ answer. run (here_at s answer) right) (λ answer. use_of (here_at s answer) k) t.0 t.1 t.2.1 (run_fine s f right t.0 t.1) (use_takes s f k t.2.0 t.2.2)
 use_takes s f (control.second_of place op left k) how t = second_takes s place op t.0 how t.1 left (λ answer. use_of (here_at s answer) k) t.2 t.3 (use_takes s f k t.1 t.4)
 use_takes s f (control.only_of place op k) how t = only_takes s place op how t.0 (λ answer. use_of (here_at s answer) k) t.1 (use_takes s f k t.0 t.2)
-use_takes s f (control.place_read place read k) how t =
-    takes_of s how accesses.Pointer (λ answer. read_way (here_at s answer) place read (use_of (here_at s answer) k)) t.0 (read_any s place read (λ answer. use_of (here_at s answer) k) f (use_takes s f k read t.1))
+use_takes s f (control.place_read place read atomic k) how t =
+    takes_of s how accesses.Pointer (λ answer. read_way (here_at s answer) place read atomic (use_of (here_at s answer) k)) t.0 (read_any s place read atomic (λ answer. use_of (here_at s answer) k) f (use_takes s f k read t.1))
 use_takes s f (control.first_test place decides right k) how t =
     first_test_takes s place decides how right (λ answer. run (here_at s answer) right) (λ answer. use_of (here_at s answer) k) t.0 t.1 (run_fine s f right t.0 t.1) (use_takes s f k (accesses.Number int) t.2)
 use_takes s f (control.second_test place k) how t = second_test_takes s place how (λ answer. use_of (here_at s answer) k) (use_takes s f k (accesses.Number int) t)
@@ -79,9 +79,9 @@ use_takes s f (control.argument place callee before rest k) how t =
     (first_scalar before e rest all t.4 (called_scalar s.typed s.func callee all ty f.well t.3)) (λ answer. t.6)
     (λ vs l. run_arguments_fine s f place callee all ty rest vs (λ answer. k) t.3 l (λ answer. t.6)))
 use_takes s f (control.to_local number k) how t = local_takes s number how (λ answer. way_of (here_at s answer) k) f t.0 (way_follows s f k t.1)
-use_takes s f (control.left_place place right k) how t =
-    takes_of s how accesses.Pointer (λ answer. use_of (here_at s answer) (control.left_place place right k)) t.0 (left_takes s place right (λ answer. way_of (here_at s answer) k) f t.1 t.2 (way_follows s f k t.3))
-use_takes s f (control.to_place place to k) how t = place_takes s place to how (λ answer. way_of (here_at s answer) k) f t.0 (way_follows s f k t.1)
+use_takes s f (control.left_place place atomic right k) how t =
+    takes_of s how accesses.Pointer (λ answer. use_of (here_at s answer) (control.left_place place atomic right k)) t.0 (left_takes s place atomic right (λ answer. way_of (here_at s answer) k) f t.1 t.2 (way_follows s f k t.3))
+use_takes s f (control.to_place place atomic to k) how t = place_takes s place atomic to how (λ answer. way_of (here_at s answer) k) f t.0 (way_follows s f k t.1)
 use_takes s f (control.struct_left place ty right k) how t =
     takes_of s how accesses.Pointer (λ answer. use_of (here_at s answer) (control.struct_left place ty right k)) t.0 (struct_left_takes s place ty right (λ answer. way_of (here_at s answer) k) f t.1 t.2 (way_follows s f k t.3))
 use_takes s f (control.struct_right place ty to k) how t =

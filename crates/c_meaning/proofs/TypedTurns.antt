@@ -17,7 +17,9 @@ use Rattle.c_tree.specs.Typed as tree
 use Rattle.c_tree.specs.TypedForm.{in_function}
 use Rattle.c_meaning.specs.Control as control
 use Rattle.c_meaning.specs.Control.{Control, Variable, Callee, Wait, wanted, dropped, Caller, TurnStart}
-use Rattle.c_meaning.specs.Library.{action_of, value_of_call}
+use Rattle.race_rules.specs.declared.touch.Touch.{Touch}
+use Rattle.c_meaning.specs.Touches.{touches_of}
+use Rattle.c_meaning.specs.Library.{action_of, value_of_call, names_atomic}
 use Rattle.c_meaning.specs.Turns.{Now, Does, WayOfUse, Way, on_ok, plainly, stays, on_done, acts, after_call, begins_in, enters, calls_library, calls, result_of_call, number_in, returns_to, leaves_call, without_blocks}
 use Rattle.c_meaning.specs.Kinds.{HasType, HasTypeIf, HasKind, AllHold, IsCalled, StandBefore, IsTypedTodo, Expects, Awaits, IsTypedPoint, AreTypedCallers, IsTypedControl, IsTypedWorld}
 use Rattle.c_meaning.specs.Sound.{End, breaking, quiet, acting, ComesOutAs, IsNotC16, EndsAs, IsTypedTurn}
@@ -88,17 +90,21 @@ plainly_fine s own w c h = record {
 
 -- the call under way goes on from a point
 abbrev pub stays_at : Site → List Variable → TurnStart → Control
-stays_at s locals point = record { function = s.number; locals = locals; point = point; callers = s.callers }
+stays_at s locals point = record { function = s.number; locals = locals; point = point; callers = s.callers; touched = [] }
+
+-- and has touched this
+abbrev pub acted_at : Site → List Touch → List Variable → TurnStart → Control
+acted_at s d locals point = record { function = s.number; locals = locals; point = point; callers = s.callers; touched = d }
 
 pub stays_typed : (s : Site) (locals : List Variable) (point : TurnStart) → Stands s → AllHold s.func.locals locals → IsTypedPoint (inside_at s) point → IsTypedControl s.typed (stays_at s locals point)
 stays_typed s locals point f h p = record { func = s.func; found = f.found; locals = h; point = p; callers = f.callers }
 
-on_done_typed : (s : Site) (place : ℕ) (P : Option Value → Type 0) (locals : List Variable) (point : Option Value → TurnStart) (d : Done) → Stands s → AllHold s.func.locals locals → DoneWith s.typed P d
-    → ((v : Option Value) → P v → IsTypedPoint (inside_at s) (point v)) → IsTypedTurn s.typed (on_done place (λ v next. runs.went (stays_at s locals (point v)) next) d)
-on_done_typed s place P locals point (actions.went v w) f h d p = (stays_typed s locals (point v) f h (p v d.0), d.1)
-on_done_typed s place P locals point actions.blocked f h d p = tt
-on_done_typed s place P locals point actions.unfit f h d p = tt
-on_done_typed s place P locals point (actions.broke rule) f h d p = tt
+on_done_typed : (s : Site) (place : ℕ) (e : List Touch) (P : Option Value → Type 0) (locals : List Variable) (point : Option Value → TurnStart) (d : Done) → Stands s → AllHold s.func.locals locals → DoneWith s.typed P d
+    → ((v : Option Value) → P v → IsTypedPoint (inside_at s) (point v)) → IsTypedTurn s.typed (on_done place (λ v next. runs.went (acted_at s e locals (point v)) next) d)
+on_done_typed s place e P locals point (actions.went v w) f h d p = (record { func = s.func; found = f.found; locals = h; point = p v d.0; callers = f.callers }, d.1)
+on_done_typed s place e P locals point actions.blocked f h d p = tt
+on_done_typed s place e P locals point actions.unfit f h d p = tt
+on_done_typed s place e P locals point (actions.broke rule) f h d p = tt
 
 on_done_comes : (place : ℕ) (own : Option Value → Control) (d : Done) → ComesOutAs place d (on_done place (λ v next. runs.went (own v) next) d)
 on_done_comes place own (actions.went v w) = refl
@@ -107,14 +113,14 @@ on_done_comes place own actions.unfit = tt
 on_done_comes place own (actions.broke rule) = refl
 
 -- an action, and where the thread goes on
-pub acts_fine : (s : Site) (place : ℕ) (action : SharedAction) (P : Option Value → Type 0) (point : Answer → Option Value → TurnStart) → Stands s
+pub acts_fine : (s : Site) (place : ℕ) (atomic : Bool) (action : SharedAction) (P : Option Value → Type 0) (point : Answer → Option Value → TurnStart) → Stands s
     → ((w : World) (answer : Answer) → IsTypedWorld s.typed w → DoneWith s.typed P (acted w s.thread answer action))
     → ((answer : Answer) (v : Option Value) → P v → IsTypedPoint (inside_at s) (point answer v))
-    → (x : Now) → IsNow s x → Fine s (λ answer. acts (here_at s answer) place action (λ v next. stays (here_at s answer) x.locals (point answer v) next) x)
-acts_fine s place action P point f does goes x n = record {
-  typed = λ answer. on_done_typed s place P x.locals (point answer) (acted x.world s.thread answer action) f n.locals (does x.world answer n.world) (goes answer);
+    → (x : Now) → IsNow s x → Fine s (λ answer. acts (here_at s answer) place atomic action (λ v next. stays (here_at s answer) x.locals (point answer v) next) x)
+acts_fine s place atomic action P point f does goes x n = record {
+  typed = λ answer. on_done_typed s place (touches_of place x.world answer atomic action) P x.locals (point answer) (acted x.world s.thread answer action) f n.locals (does x.world answer n.world) (goes answer);
   end = acting place action x.world;
-  ends = λ answer. on_done_comes place (λ v. stays_at s x.locals (point answer v)) (acted x.world s.thread answer action);
+  ends = λ answer. on_done_comes place (λ v. acted_at s (touches_of place x.world answer atomic action) x.locals (point answer v)) (acted x.world s.thread answer action);
 }
 
 pub after_typed : (s : Site) (ty : tree.Ty) (k : Wait) (v : Option Value) → Awaits (inside_at s) ty k → HasTypeIf ty v → IsTypedPoint (inside_at s) (after_call k v)
@@ -145,7 +151,7 @@ library_fine : (s : Site) (place : ℕ) (which : tree.Lib) (ty : tree.Ty) (args 
     → ((answer : Answer) → Awaits (inside_at s) ty (k answer)) → IsFine s (λ answer. calls_library (here_at s answer) place which args (k answer) action)
 library_fine s place which ty args k None f does waits x n = elim does [ ]
 library_fine s place which ty args k (Some action) f does waits x n =
-    acts_fine s place action (λ v. HasTypeIf ty (value_of_call which args v)) (λ answer v. after_call (k answer) (value_of_call which args v)) f (λ w answer h. does w s.thread answer h)
+    acts_fine s place (names_atomic which) action (λ v. HasTypeIf ty (value_of_call which args v)) (λ answer v. after_call (k answer) (value_of_call which args v)) f (λ w answer h. does w s.thread answer h)
     (λ answer v h. after_typed s ty (k answer) (value_of_call which args v) (waits answer) h) x n
 
 -- a call of which the arguments are known
@@ -176,7 +182,7 @@ returns_fine s v w [] h cs n = record {
   ends = λ answer. returns_comes 0 (acted w s.thread answer (actions.finish (number_in v)));
 }
 returns_fine s v w (c ∷ callers) h cs n =
-    plainly_fine s (λ answer. record { function = c.function; locals = c.locals; point = after_call c.wait v; callers = callers }) w
+    plainly_fine s (λ answer. record { function = c.function; locals = c.locals; point = after_call c.wait v; callers = callers; touched = [] }) w
     (λ answer. record {
       func = cs.0;
       found = cs.1.found;

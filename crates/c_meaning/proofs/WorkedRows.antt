@@ -7,6 +7,7 @@ use Rattle.c_meaning.specs.Rows.{RowsStand, RulesStand, OrdersStand}
 use Rattle.c_meaning.specs.SwitchRows.{SwitchesStand}
 use Rattle.c_meaning.specs.AllocationRows.{AllocationsStand}
 use Rattle.c_meaning.specs.AtomicRows.{AtomicsStand}
+use Rattle.c_meaning.specs.TouchRows.{TouchesStand}
 
 pub rows_stand : RowsStand
 unfolding digits residue wrapped_value exact_result rule_of
@@ -129,4 +130,14 @@ atomics_stand = record {
   both_counted = refl;
   both_counted_back = refl;
   one_lost = refl;
+}
+
+pub touches_stand : TouchesStand
+unfolding digits residue wrapped_value exact_result rule_of
+touches_stand = record {
+  atomic_touches = refl;
+  plain_touches = refl;
+  compare_touches = refl;
+  freed_touches = refl;
+  joined_touches = refl;
 }

@@ -4,6 +4,7 @@ use Rattle.ak_words.specs.declared.operation.Op.{Op}
 use Rattle.block_store.specs.declared.values.Access.{Access}
 use Rattle.block_store.specs.declared.values.Value.{Value}
 use Rattle.c_tree.specs.Typed as tree
+use Rattle.race_rules.specs.declared.touch.Touch.{Touch}
 use Rattle.c_meaning.specs.Values.{Unary, Binary}
 
 -- a local: it has no value or no block yet; it has a value; or it is a block (an object in memory)
@@ -51,8 +52,8 @@ mutual
     first_of : (place : ℕ) (op : Binary) (right : tree.Expr) (k : Use) → Use
     second_of : (place : ℕ) (op : Binary) (left : Value) (k : Use) → Use
     only_of : (place : ℕ) (op : Unary) (k : Use) → Use
-    -- the place that is read
-    place_read : (place : ℕ) (how : Access) (k : Use) → Use
+    -- the place that is read, and whether the object there is atomic
+    place_read : (place : ℕ) (how : Access) (atomic : Bool) (k : Use) → Use
     -- the left operand of && (which 0 decides: `decides` is false) or of || (which 1 decides), and then the right one
     first_test : (place : ℕ) (decides : Bool) (right : tree.Expr) (k : Use) → Use
     second_test : (place : ℕ) (k : Use) → Use
@@ -60,10 +61,10 @@ mutual
     choice : (place : ℕ) (one other : tree.Expr) (k : Use) → Use
     -- an argument of a call, those before it and those behind it
     argument : (place : ℕ) (callee : Callee) (before : List Value) (rest : tree.Exprs) (k : Wait) → Use
-    -- an assigned or initial value
+    -- an assigned or initial value, and whether the object is atomic
     to_local : (number : ℕ) (k : Todo) → Use
-    left_place : (place : ℕ) (right : tree.Expr) (k : Todo) → Use
-    to_place : (place : ℕ) (to : Value) (k : Todo) → Use
+    left_place : (place : ℕ) (atomic : Bool) (right : tree.Expr) (k : Todo) → Use
+    to_place : (place : ℕ) (atomic : Bool) (to : Value) (k : Todo) → Use
     -- an assigned struct: the place of the left side, and then that of the right one
     struct_left : (place : ℕ) (ty : tree.Ty) (right : tree.Expr) (k : Todo) → Use
     struct_right : (place : ℕ) (ty : tree.Ty) (to : Value) (k : Todo) → Use
@@ -99,9 +100,10 @@ pub data TurnStart : Type 0 where
   begins : (k : Todo) → TurnStart
   round : (l : Loop) (k : Todo) → TurnStart
 
--- a thread's own: the call under way, where it is, and the calls that wait, the nearest first
+-- a thread's own: the call under way, where it is, the calls that wait, the nearest first, and what its last turn touched
 pub record Control : Type 0 where
   pub function : ℕ
   pub locals : List Variable
   pub point : TurnStart
   pub callers : List Caller
+  pub touched : List Touch

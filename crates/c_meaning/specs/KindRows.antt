@@ -33,11 +33,12 @@ multiplying a b = record {
   locals = holds an_int ∷ holds an_int ∷ [];
   point = gives b (second_of 0 (on_numbers ops.Mul) a (to_local 0 leaves));
   callers = [];
+  touched = [];
 }
 
 -- main, where its two locals hold these
 abbrev pub holding : (a b : Variable) → Control
-holding a b = record { function = 0; locals = a ∷ b ∷ []; point = begins leaves; callers = [] }
+holding a b = record { function = 0; locals = a ∷ b ∷ []; point = begins leaves; callers = []; touched = [] }
 
 -- an int is an int, and no char, no pointer and nothing of type void; a null pointer is of each pointer type
 pub record ValuesAreTold : Type 0 where

@@ -132,7 +132,7 @@ abbrev mutual
   Expects i how (first_of place op right k) = IsTyped i.context right × IsScalar (tree.type_of right) × ((to : Access) × TakesTwo op how (access_of_type (tree.type_of right)) to × Expects i to k)
   Expects i how (second_of place op left k) = (from : Access) × (to : Access) × HasKind from left × TakesTwo op from how to × Expects i to k
   Expects i how (only_of place op k) = (to : Access) × TakesOne op how to × Expects i to k
-  Expects i how (place_read place read k) = (how ≡ accesses.Pointer) × Expects i read k
+  Expects i how (place_read place read atomic k) = (how ≡ accesses.Pointer) × Expects i read k
   Expects i how (first_test place decides right k) = IsTyped i.context right × IsScalar (tree.type_of right) × Expects i (accesses.Number int) k
   Expects i how (second_test place k) = Expects i (accesses.Number int) k
   Expects i how (choice place one other k) = IsTyped i.context one × IsTyped i.context other × IsScalar (tree.type_of one) × (tree.type_of other ≡ tree.type_of one)
@@ -140,8 +140,8 @@ abbrev mutual
   Expects i how (argument place callee before rest k) = (ty : tree.Ty) × (e : tree.Expr) × (all : tree.Exprs) × IsCalled i.context callee all ty
       × StandBefore before (tree.more_exprs e rest) all × (access_of_type (tree.type_of e) ≡ how) × Awaits i ty k
   Expects i how (to_local number k) = IsNth i.context.locals number (λ l. (l.in_memory ≡ false) × (access_of_type l.ty ≡ how)) × IsTypedTodo i k
-  Expects i how (left_place place right k) = (how ≡ accesses.Pointer) × IsTyped i.context right × IsScalar (tree.type_of right) × IsTypedTodo i k
-  Expects i how (to_place place to k) = HasKind accesses.Pointer to × IsTypedTodo i k
+  Expects i how (left_place place atomic right k) = (how ≡ accesses.Pointer) × IsTyped i.context right × IsScalar (tree.type_of right) × IsTypedTodo i k
+  Expects i how (to_place place atomic to k) = HasKind accesses.Pointer to × IsTypedTodo i k
   Expects i how (struct_left place ty right k) = (how ≡ accesses.Pointer) × IsTyped i.context right × IsLvalue (tree.node_of right) × IsTypedTodo i k
   Expects i how (struct_right place ty to k) = (how ≡ accesses.Pointer) × HasKind accesses.Pointer to × IsTypedTodo i k
   Expects i how (update_left u right k) = (how ≡ accesses.Pointer) × IsTyped i.context right × CanUpdate i.context.structs u.op u.ty (tree.type_of right) × IsTypedTodo i k

@@ -1,6 +1,7 @@
 pub mod Values
 pub mod Library
 pub mod Switches
+pub mod Touches
 pub mod Control
 pub mod Turns
 pub mod Meaning
@@ -12,3 +13,5 @@ pub mod SwitchRows
 pub mod AllocationRows
 pub mod AtomicRows
 pub mod KindRows
+pub mod Touching
+pub mod TouchRows

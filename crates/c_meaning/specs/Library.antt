@@ -76,3 +76,12 @@ value_of_call tree.mutex_init args v = Some (values.Num (num int (pos 0)))
 value_of_call tree.mutex_lock args v = Some (values.Num (num int (pos 0)))
 value_of_call tree.mutex_unlock args v = Some (values.Num (num int (pos 0)))
 value_of_call which args v = v
+
+-- the call names an object that is atomic (C11 7.17.7)
+abbrev pub names_atomic : tree.Lib → Bool
+names_atomic tree.atomic_add = true
+names_atomic tree.atomic_sub = true
+names_atomic tree.atomic_swap = true
+names_atomic tree.atomic_compare = true
+names_atomic tree.atomic_store = true
+names_atomic which = false

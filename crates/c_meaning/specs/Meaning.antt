@@ -34,7 +34,7 @@ arguments_if (suc n) argument = values.Pointer argument ∷ []
 
 -- a thread begins with a function; of a well formed program there is one of each number that it may begin with
 abbrev pub begins_if : (function : ℕ) → Ptr → Option tree.Func → Control
-begins_if number argument None = record { function = number; locals = []; point = begins leaves; callers = [] }
+begins_if number argument None = record { function = number; locals = []; point = begins leaves; callers = []; touched = [] }
 begins_if number argument (Some f) = begins_in number f (arguments_if f.params argument) []
 
 -- the program: how a thread begins, one turn of it, and how many of its calls wait

@@ -23,7 +23,9 @@ use Rattle.block_store.specs.Runs.{Turn, went, ended, blocked, unfit, broke}
 use Rattle.c_tree.specs.Typed as tree
 use Rattle.c_tree.specs.TypedLayout.{size_in, align_in}
 use Rattle.c_meaning.specs.Values.{access_of_type, is_scalar, is_atomic, is_minus, element_size, member_offset, int_of, truth_of, Unary, converts, negates, tests, selects, Binary, on_numbers, forward, backward, distance, on_pointers, of_one, of_two, updated}
-use Rattle.c_meaning.specs.Library.{changed_by, action_of, value_of_call}
+use Rattle.race_rules.specs.declared.touch.Touch.{Touch}
+use Rattle.c_meaning.specs.Touches.{touches_of}
+use Rattle.c_meaning.specs.Library.{changed_by, action_of, value_of_call, names_atomic}
 use Rattle.c_meaning.specs.Switches.{chosen, starts_at}
 use Rattle.c_meaning.specs.Control.{Variable, unset, holds, lies, Loop, Update, Callee, function, library, Todo, leaves, then_row, then_end, then_loop, in_body, in_step, in_switch}
 use Rattle.c_meaning.specs.Control.{Use, first_of, second_of, only_of, place_read, first_test, second_test, choice, argument, to_local, left_place, to_place, struct_left, struct_right, update_left, update_local, update_right, update_read, if_test, loop_test, switch_test, to_caller, to_nowhere}
@@ -74,7 +76,15 @@ plainly answers.None t = unfit
 
 -- the call under way goes on from a point in its next turn
 abbrev pub stays : TurnContext → List Variable → TurnStart → World → Turn Control
-stays h locals point w = went (record { function = h.function; locals = locals; point = point; callers = h.callers }) w
+stays h locals point w = went (record { function = h.function; locals = locals; point = point; callers = h.callers; touched = [] }) w
+
+-- the thread keeps what it touched
+abbrev pub having_touched : List Touch → Turn Control → Turn Control
+having_touched touched (went c w) = went (record { function = c.function; locals = c.locals; point = c.point; callers = c.callers; touched = touched }) w
+having_touched touched (ended w) = ended w
+having_touched touched blocked = blocked
+having_touched touched unfit = unfit
+having_touched touched (broke rule place) = broke rule place
 
 -- how an action comes out
 abbrev pub on_done : (place : ℕ) → (Option Value → World → Turn Control) → actions.Done → Turn Control
@@ -83,9 +93,10 @@ on_done place go actions.blocked = blocked
 on_done place go actions.unfit = unfit
 on_done place go (actions.broke rule) = broke rule place
 
--- an action is done, and ends the turn
-abbrev pub acts : TurnContext → (place : ℕ) → SharedAction → (Option Value → World → Turn Control) → Does
-acts h place action go x = on_done place go (actions.acted x.world h.thread h.answer action)
+-- an action is done, and ends the turn; at this place it is named what the action reaches, which is an atomic object or not
+abbrev pub acts : TurnContext → (place : ℕ) → (atomic : Bool) → SharedAction → (Option Value → World → Turn Control) → Does
+acts h place atomic action go x =
+    on_done place (λ v w. having_touched (touches_of place x.world h.answer atomic action) (go v w)) (actions.acted x.world h.thread h.answer action)
 
 -- what a call's value leads to
 abbrev pub after_call : Wait → Option Value → TurnStart
@@ -112,6 +123,11 @@ local_at h number = declared_in (func_at h) number
 abbrev pub is_block : Option tree.Local → Bool
 is_block None = false
 is_block (Some l) = l.in_memory
+
+-- the local is a number that is read and written whole
+abbrev pub is_atomic_local : Option tree.Local → Bool
+is_atomic_local None = false
+is_atomic_local (Some l) = is_atomic l.ty
 
 -- the size of a local's type
 abbrev pub size_of_local : TurnContext → Option tree.Local → ℕ
@@ -191,7 +207,7 @@ first_locals f args = map holds args ++ replicate (length f.locals - length args
 
 -- where a thread stands that has just entered a function: before the first statement of its body, above these callers
 abbrev pub begins_in : (function : ℕ) → tree.Func → List Value → (callers : List Caller) → Control
-begins_in number f args callers = record { function = number; locals = first_locals f args; point = begins (then_row f.body leaves); callers = callers }
+begins_in number f args callers = record { function = number; locals = first_locals f args; point = begins (then_row f.body leaves); callers = callers; touched = [] }
 
 -- a function is entered
 abbrev pub enters : TurnContext → (function : ℕ) → List Value → Wait → Now → Option tree.Func → Turn Control
@@ -202,7 +218,7 @@ enters h number args k x (Some f) =
 -- a library's call is an action
 abbrev pub calls_library : TurnContext → (place : ℕ) → tree.Lib → List Value → Wait → Option SharedAction → Does
 calls_library h place which args k None x = unfit
-calls_library h place which args k (Some action) x = acts h place action (λ v w. stays h x.locals (after_call k (value_of_call which args v)) w) x
+calls_library h place which args k (Some action) x = acts h place (names_atomic which) action (λ v w. stays h x.locals (after_call k (value_of_call which args v)) w) x
 
 -- a call, of which the arguments' values are known
 abbrev pub calls : TurnContext → (place : ℕ) → Callee → List Value → Wait → Does
@@ -223,7 +239,7 @@ number_in None = None
 -- a call is left: the thread goes on in the caller, or its first function has returned, which is an action
 abbrev pub returns_to : TurnContext → Option Value → World → List Caller → Turn Control
 returns_to h v w [] = on_done 0 (λ u next. ended next) (actions.acted w h.thread h.answer (actions.finish (number_in v)))
-returns_to h v w (c ∷ callers) = plainly h.answer (went (record { function = c.function; locals = c.locals; point = after_call c.wait v; callers = callers }) w)
+returns_to h v w (c ∷ callers) = plainly h.answer (went (record { function = c.function; locals = c.locals; point = after_call c.wait v; callers = callers; touched = [] }) w)
 
 -- its locals end
 abbrev pub leaves_call : TurnContext → Option Value → Does
@@ -237,10 +253,10 @@ pointer_in (values.Pointer p) = p
 pointer_in (values.Num n) = Null
 
 -- an object is read: one action
-abbrev pub read_way : TurnContext → (place : ℕ) → Access → WayOfUse → WayOfUse
-read_way h place how w = record {
-  k = place_read place how w.k;
-  go = λ v x. acts h place (actions.load (pointer_in v) how) (λ u next. stays h x.locals (after_call (wanted place w.k) u) next) x;
+abbrev pub read_way : TurnContext → (place : ℕ) → Access → (atomic : Bool) → WayOfUse → WayOfUse
+read_way h place how atomic w = record {
+  k = place_read place how atomic w.k;
+  go = λ v x. acts h place atomic (actions.load (pointer_in v) how) (λ u next. stays h x.locals (after_call (wanted place w.k) u) next) x;
 }
 
 -- one operand, and two: the left one is evaluated first
@@ -286,7 +302,7 @@ argument_way place callee before rest run_rest k = record { k = argument place c
 abbrev pub reads_variable : TurnContext → (place : ℕ) → tree.Ty → WayOfUse → Variable → Does
 reads_variable h place ty w unset x = broke C4 place
 reads_variable h place ty w (holds v) x = w.go v x
-reads_variable h place ty w (lies block) x = (read_way h place (access_of_type ty) w).go (values.Pointer (To block 0)) x
+reads_variable h place ty w (lies block) x = (read_way h place (access_of_type ty) (is_atomic ty) w).go (values.Pointer (To block 0)) x
 
 -- the block of a local; C4 where it has none yet
 abbrev pub finds_variable : (place : ℕ) → WayOfUse → Variable → Does
@@ -313,12 +329,12 @@ abbrev mutual
   pub run_node : TurnContext → (place : ℕ) → tree.Ty → tree.ExprNode → WayOfUse → Does
   run_node h place ty (tree.num t z) w x = w.go (values.Num (num t z)) x
   run_node h place ty tree.null w x = w.go (values.Pointer Null) x
-  run_node h place ty (tree.literal number) w x = (read_way h place (access_of_type ty) w).go (values.Pointer (To (literal_block h number) 0)) x
-  run_node h place ty (tree.global number) w x = (read_way h place (access_of_type ty) w).go (values.Pointer (To number 0)) x
+  run_node h place ty (tree.literal number) w x = (read_way h place (access_of_type ty) (is_atomic ty) w).go (values.Pointer (To (literal_block h number) 0)) x
+  run_node h place ty (tree.global number) w x = (read_way h place (access_of_type ty) (is_atomic ty) w).go (values.Pointer (To number 0)) x
   run_node h place ty (tree.local number) w x = reads_variable h place ty w (variable_at x number) x
-  run_node h place ty (tree.deref e) w x = run h e (read_way h place (access_of_type ty) w) x
+  run_node h place ty (tree.deref e) w x = run h e (read_way h place (access_of_type ty) (is_atomic ty) w) x
   run_node h place ty (tree.member e number) w x =
-      run_place h e (only_way place (selects (member_offset h.typed.structs (tree.type_of e) number)) (read_way h place (access_of_type ty) w)) x
+      run_place h e (only_way place (selects (member_offset h.typed.structs (tree.type_of e) number)) (read_way h place (access_of_type ty) (is_atomic ty) w)) x
   run_node h place ty (tree.address_of e) w x = run_place h e w x
   run_node h place ty (tree.decay e) w x = run_place h e w x
   run_node h place ty (tree.convert e) w x = run h e (only_way place (converts ty) w) x
@@ -387,21 +403,21 @@ abbrev pub local_way : (number : ℕ) → Way → WayOfUse
 local_way number w = record { k = to_local number w.k; go = λ v x. w.end (with_variable number (holds v) x) }
 
 -- once the value is there: it is stored in the object that was found before, one action
-abbrev pub place_way : TurnContext → (place : ℕ) → (to : Value) → Way → WayOfUse
-place_way h place to w = record {
-  k = to_place place to w.k;
-  go = λ v x. acts h place (actions.store (pointer_in to) v) (λ u next. stays h x.locals (begins w.k) next) x;
+abbrev pub place_way : TurnContext → (place : ℕ) → (atomic : Bool) → (to : Value) → Way → WayOfUse
+place_way h place atomic to w = record {
+  k = to_place place atomic to w.k;
+  go = λ v x. acts h place atomic (actions.store (pointer_in to) v) (λ u next. stays h x.locals (begins w.k) next) x;
 }
 
 -- the left side's place is found, then the right side is evaluated
-abbrev pub left_way : TurnContext → (place : ℕ) → tree.Expr → Way → WayOfUse
-left_way h place right w = record { k = left_place place right w.k; go = λ v. run h right (place_way h place v w) }
+abbrev pub left_way : TurnContext → (place : ℕ) → (atomic : Bool) → tree.Expr → Way → WayOfUse
+left_way h place atomic right w = record { k = left_place place atomic right w.k; go = λ v. run h right (place_way h place atomic v w) }
 
 -- a struct is assigned, also to itself: one action
 abbrev pub struct_right_way : TurnContext → (place : ℕ) → tree.Ty → (to : Value) → Way → WayOfUse
 struct_right_way h place ty to w = record {
   k = struct_right place ty to w.k;
-  go = λ v x. acts h place (actions.copy (pointer_in to) (pointer_in v) (size_in h.typed.structs ty) (align_in h.typed.structs ty) true) (λ u next. stays h x.locals (begins w.k) next) x;
+  go = λ v x. acts h place false (actions.copy (pointer_in to) (pointer_in v) (size_in h.typed.structs ty) (align_in h.typed.structs ty) true) (λ u next. stays h x.locals (begins w.k) next) x;
 }
 
 -- once the struct of the left side is found: the one of the right side is found
@@ -417,7 +433,7 @@ is_struct ty = false
 abbrev pub assigns_object : TurnContext → tree.Expr → tree.Expr → Way → Does
 assigns_object h left right w =
     if is_struct (tree.type_of left) then run_place h left (struct_left_way h (tree.place_of left) (tree.type_of left) right w)
-    else run_place h left (left_way h (tree.place_of left) right w)
+    else run_place h left (left_way h (tree.place_of left) (is_atomic (tree.type_of left)) right w)
 
 -- an assignment, by its left side: a local without a block, or an object
 abbrev pub assigns : TurnContext → tree.ExprNode → (left right : tree.Expr) → Way → Does
@@ -430,17 +446,17 @@ assigns h node left right w = assigns_object h left right w
 abbrev pub update_read_way : TurnContext → Update → (at by : Value) → Way → WayOfUse
 update_read_way h u at by w = record {
   k = update_read u at by w.k;
-  go = λ v x. on_ok u.operator (λ r. (place_way h u.place at w).go r x) (updated h.typed.structs x.world.blocks u.ty u.op v by);
+  go = λ v x. on_ok u.operator (λ r. (place_way h u.place false at w).go r x) (updated h.typed.structs x.world.blocks u.ty u.op v by);
 }
 
 -- a is read, one action
 abbrev pub update_reads : TurnContext → Update → (at by : Value) → Way → Does
-update_reads h u at by w x = acts h u.place (actions.load (pointer_in at) (access_of_type u.ty)) (λ read next. stays h x.locals (after_call (wanted u.place (update_read u at by w.k)) read) next) x
+update_reads h u at by w x = acts h u.place false (actions.load (pointer_in at) (access_of_type u.ty)) (λ read next. stays h x.locals (after_call (wanted u.place (update_read u at by w.k)) read) next) x
 
 -- a, which is atomic, is changed, one action, and its old number is dropped (C11 6.5.16.2 p3)
 abbrev pub update_changes : TurnContext → Update → Way → Option SharedAction → Does
 update_changes h u w None x = unfit
-update_changes h u w (Some action) x = acts h u.place action (λ old next. stays h x.locals (begins w.k) next) x
+update_changes h u w (Some action) x = acts h u.place true action (λ old next. stays h x.locals (begins w.k) next) x
 
 -- once b has its value: a is changed where it is atomic, and else read
 abbrev pub update_right_way : TurnContext → Update → (at : Value) → Way → WayOfUse
@@ -472,7 +488,7 @@ updates h u node left right w = run_place h left (update_left_way h u right w)
 -- a local is declared: a value is put into it, or stored in its block (C11 6.7.9)
 abbrev pub initialises : TurnContext → (place number : ℕ) → tree.Expr → Way → Does
 initialises h place number init w x =
-    if is_block (local_at h number) then run h init (place_way h place (values.Pointer (To (length (ended_local number x).world.blocks) 0)) w) (made_local h number x)
+    if is_block (local_at h number) then run h init (place_way h place (is_atomic_local (local_at h number)) (values.Pointer (To (length (ended_local number x).world.blocks) 0)) w) (made_local h number x)
     else run h init (local_way number w) (with_variable number unset x)
 
 -- a declaration, with an initial value, or without one, where the value is indeterminate (C11 6.7.9 p10)
@@ -641,14 +657,14 @@ abbrev pub use_of : TurnContext → Use → WayOfUse
 use_of h (first_of place op right k) = first_way place op right (run h right) (use_of h k)
 use_of h (second_of place op left k) = second_way place op left (use_of h k)
 use_of h (only_of place op k) = only_way place op (use_of h k)
-use_of h (place_read place how k) = read_way h place how (use_of h k)
+use_of h (place_read place how atomic k) = read_way h place how atomic (use_of h k)
 use_of h (first_test place decides right k) = first_test_way place decides right (run h right) (use_of h k)
 use_of h (second_test place k) = second_test_way place (use_of h k)
 use_of h (choice place one other k) = choice_way place one other (run h one) (run h other) (use_of h k)
 use_of h (argument place callee before rest k) = argument_way place callee before rest (run_arguments h place callee rest) k
 use_of h (to_local number k) = local_way number (way_of h k)
-use_of h (left_place place right k) = left_way h place right (way_of h k)
-use_of h (to_place place to k) = place_way h place to (way_of h k)
+use_of h (left_place place atomic right k) = left_way h place atomic right (way_of h k)
+use_of h (to_place place atomic to k) = place_way h place atomic to (way_of h k)
 use_of h (struct_left place ty right k) = struct_left_way h place ty right (way_of h k)
 use_of h (struct_right place ty to k) = struct_right_way h place ty to (way_of h k)
 use_of h (update_left u right k) = update_left_way h u right (way_of h k)

@@ -4,6 +4,7 @@ ghost use Rattle.block_store.specs.Actions.{World};
 ghost use Rattle.block_store.specs.Runs.{Program, BeginsOutsideCalls, State, own_at, Pick, reaches, run, shown};
 ghost use Rattle.c_tree.specs.Typed.{Typed};
 ghost use Rattle.c_meaning.specs.Meaning.{program};
+ghost use Rattle.c_meaning.specs.TouchRows.{TouchesStand};
 ghost use Rattle.c_meaning.specs.Alike.{AsDeep, reached_by, reached_in};
 ghost use Rattle.c_meaning.specs.Rows.{RowsStand, RulesStand, OrdersStand};
 ghost use Rattle.c_meaning.specs.SwitchRows.{SwitchesStand};
@@ -22,6 +23,7 @@ pub fn small_programs_mean_what_they_should()
     ensures switches { SwitchesStand }
     ensures allocations { AllocationsStand }
     ensures atomics { AtomicsStand }
+    ensures touches { TouchesStand }
 {}
 
 /// What an order shows of a program, turn by turn, tells where its run comes to: so programs that show the same come to the

@@ -31,7 +31,7 @@ the_calls = program_of (lowered recurses)
 abbrev in_loop : State Control
 in_loop = record {
   world = start spins;
-  own = Some (record { function = 0; locals = []; point = round (while_loop 0 (k 1) (one empty)) (then_row no_stmts leaves); callers = [] }) ∷ [];
+  own = Some (record { function = 0; locals = []; point = round (while_loop 0 (k 1) (one empty)) (then_row no_stmts leaves); callers = []; touched = [] }) ∷ [];
 }
 
 -- a call of the second function, above these that wait

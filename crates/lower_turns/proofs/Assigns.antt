@@ -1,6 +1,6 @@
 -- A value goes to a local or to an object.
 use Rattle.lower_turns.proofs.Operands.{computed_taken}
-use Rattle.std.proofs.Common.{◌≡◌, ◌≢◌, ℕ, suc, ◌<◌, ◌^◌, ◌⊎◌, inl, inr, ℤ, pos, true, List, [], ◌∷◌, set, Option, Some, None, Result, Ok, Err, refl, sym, ap, subst, ◌∙◌, arith, unsigned_abs}
+use Rattle.std.proofs.Common.{◌≡◌, Bool, ◌≢◌, ℕ, suc, ◌<◌, ◌^◌, ◌⊎◌, inl, inr, ℤ, pos, true, List, [], ◌∷◌, set, Option, Some, None, Result, Ok, Err, refl, sym, ap, subst, ◌∙◌, arith, unsigned_abs}
 use Rattle.std.specs.Prelude.{slice_get}
 use Rattle.ak_words.specs.declared.int_type.IntType.{IntType}
 use Rattle.ak_words.specs.declared.number.Num.{Num}
@@ -40,7 +40,7 @@ use Rattle.lower_forms.specs.Programs.{lowered}
 use Rattle.lower_turns.proofs.Relation.{HasKind, Below, Reaches, Points, InRegister, no_value, one_value, held_in, forwards, backwards, at_local, at_nowhere, at_place, at_block, at_struct_right, at_update_read, at_update_local, Together, both_went, both_broke, same, at_begins}
 use Rattle.lower_turns.proofs.Registers.{set_here, set_there, below_same, below_less, below_then, below_set, reaches_below}
 use Rattle.lower_turns.proofs.Values.{binary_is, binary_kind, long_is, taken_is}
-use Rattle.lower_turns.proofs.Steps.{set_then, set_result, set_breaks, step_alike}
+use Rattle.lower_turns.proofs.Steps.{set_then, set_result, set_breaks, acts_alike}
 use Rattle.lower_turns.proofs.Setting.{Stands, Setting, here, now, own, Alike, frame, start, start_is, agrees_on, GoesE, GoesS, points_found}
 use Rattle.lower_turns.proofs.Actions.{GivesNone, if_went, store_so, copy_so, IfWent}
 use Rattle.lower_turns.proofs.Uses.{address_reached, above_behind}
@@ -154,24 +154,24 @@ module _ (g : Setting) (vs : List Variable) (ob : ℕ → Option ℕ) (b : Block
   }
 
   -- a step without a value, and then the statement is done
-  stores : (a : ℕ → Held) → Stands g vs a ob → (place : ℕ) (st : Step) → st.to ≡ None → (act : actions.SharedAction) → action_of place (own g ob a b) st ≡ Ok act
+  stores : (a : ℕ → Held) → Stands g vs a ob → (place : ℕ) (atomic : Bool) (st : Step) → st.to ≡ None → (act : actions.SharedAction) → action_of place (own g ob a b) st ≡ Ok act
       → IfWent g.t GivesNone (acted world_now g.thread g.answer act)
-      → Alike g (acts (here g) place act (λ v next. stays (here g) vs (source.begins w.k) next) (now g vs b)) (then_ (more_nodes (plain place (ir.step st)) r) q) (own g ob a b)
-  stores a h place st to act is so =
-      step_alike (lowered g.t) g.thread g.answer g.cs' g.s g.t (λ v next. stays (here g) vs (source.begins w.k) next) place st r q (own g ob a b) act is
+      → Alike g (acts (here g) place atomic act (λ v next. stays (here g) vs (source.begins w.k) next) (now g vs b)) (then_ (more_nodes (plain place (ir.step st)) r) q) (own g ob a b)
+  stores a h place atomic st to act is so =
+      acts_alike (lowered g.t) g.thread g.answer g.cs' g.s g.t (λ v next. stays (here g) vs (source.begins w.k) next) _ place st r q (own g ob a b) act is
       (λ v next d. let k = if_went g.t GivesNone (acted world_now g.thread g.answer act) v next so d in
       subst (λ (o : Option ℕ). Together g.t (stays (here g) vs (source.begins w.k) next) (runs.went (record { top = record { at = then_ r q; own = own g ob (set_if a o v) b }; callers = g.cs' }) next)) (sym to)
       (both_went next k.1 (same g.call h (at_begins goes.at) g.callers)))
 
   -- the value is stored where the left side is
-  pub place_goes : (place : ℕ) (to : Ptr) (how : Access) (via rch : Reach) → Reaches tm via (start g) to
-      → GoesE g vs ob b tm (place_way (here g) place (values.Pointer to) w) (behind via (start g)) how rch (forms.acts place (ir.store how) (reached via (start g) ∷ []) None (behind via (start g) ∷ []) r) q
-  place_goes place to how via rch leads = record {
-    at = at_place place to how via rch leads goes.at;
+  pub place_goes : (place : ℕ) (atomic : Bool) (to : Ptr) (how : Access) (via rch : Reach) → Reaches tm via (start g) to
+      → GoesE g vs ob b tm (place_way (here g) place atomic (values.Pointer to) w) (behind via (start g)) how rch (forms.acts place (ir.store how) (reached via (start g) ∷ []) None (behind via (start g) ∷ []) r) q
+  place_goes place atomic to how via rch leads = record {
+    at = at_place place atomic to how via rch leads goes.at;
     above = omega (arith, above_behind via (start g));
     agrees = agrees;
     go = λ v a kind below is points.
-        stores a (agrees_on g vs tm a ob (behind via (start g)) (omega (arith, above_behind via (start g))) agrees below) place
+        stores a (agrees_on g vs tm a ob (behind via (start g)) (omega (arith, above_behind via (start g))) agrees below) place atomic
         (record { action = ir.store how; places = reached via (start g) ∷ []; to = None; temps = behind via (start g) ∷ []; slots = [] }) refl (actions.store to v)
         (action_is place (own g ob a b) (record { action = ir.store how; places = reached via (start g) ∷ []; to = None; temps = behind via (start g) ∷ []; slots = [] }) (to ∷ []) (v ∷ [])
         (one_more_place place (own g ob a b) (reached via (start g)) [] to [] (address_reached place (own g ob a b) via (start g) to (reaches_below tm a via (start g) to leads below)) refl)
@@ -180,16 +180,16 @@ module _ (g : Setting) (vs : List Variable) (ob : ℕ → Option ℕ) (b : Block
   }
 
   -- the value is a block's first one
-  pub block_goes : (place i k c : ℕ) (how : Access) (rch : Reach) → home (frame g) i ≡ Some k → i < start g → ob k ≡ Some c
-      → GoesE g vs ob b tm (place_way (here g) place (values.Pointer (To c 0)) w) (start g) how rch (sets place i (ir.object k) (forms.acts place (ir.store how) (at_temp i ∷ []) None (start g ∷ []) r)) q
-  block_goes place i k c how rch has lt there = record {
-    at = at_block place i k c how rch has lt there goes.at;
+  pub block_goes : (place : ℕ) (atomic : Bool) (i k c : ℕ) (how : Access) (rch : Reach) → home (frame g) i ≡ Some k → i < start g → ob k ≡ Some c
+      → GoesE g vs ob b tm (place_way (here g) place atomic (values.Pointer (To c 0)) w) (start g) how rch (sets place i (ir.object k) (forms.acts place (ir.store how) (at_temp i ∷ []) None (start g ∷ []) r)) q
+  block_goes place atomic i k c how rch has lt there = record {
+    at = at_block place atomic i k c how rch has lt there goes.at;
     above = omega arith;
     agrees = agrees;
     go = λ v a kind below is points.
         let ne : start g ≢ i = λ e. absurd (omega (arith, lt, e)) in
         set_then (lowered g.t) g.thread g.answer g.cs' g.s g.t _ place i (ir.object k) (forms.acts place (ir.store how) (at_temp i ∷ []) None (start g ∷ []) r) q (own g ob a b) (pointer (To c 0)) (ap (λ (o : Option ℕ). Ok (start_of o)) there)
-        (stores (set_at a i (pointer (To c 0))) (agrees_unused g vs a ob (agrees_on g vs tm a ob (start g) (omega arith) agrees below) i k has (pointer (To c 0))) place
+        (stores (set_at a i (pointer (To c 0))) (agrees_unused g vs a ob (agrees_on g vs tm a ob (start g) (omega arith) agrees below) i k has (pointer (To c 0))) place atomic
         (record { action = ir.store how; places = at_temp i ∷ []; to = None; temps = start g ∷ []; slots = [] }) refl (actions.store (To c 0) v)
         (action_is place (own g ob (set_at a i (pointer (To c 0))) b) (record { action = ir.store how; places = at_temp i ∷ []; to = None; temps = start g ∷ []; slots = [] }) (To c 0 ∷ []) (v ∷ [])
         (one_more_place place (own g ob (set_at a i (pointer (To c 0))) b) (at_temp i) [] (To c 0) [] (at_register place (own g ob (set_at a i (pointer (To c 0))) b) i (To c 0) (set_here a i (pointer (To c 0)))) refl)
@@ -220,7 +220,7 @@ module _ (g : Setting) (vs : List Variable) (ob : ℕ → Option ℕ) (b : Block
           let st : Step = record { action = ir.copy_bytes (align_in g.t.structs ty) true; places = reached via (start g) ∷ reached rch (behind via (start g)) ∷ []; to = None; temps = behind rch (behind via (start g)) ∷ []; slots = [] } in
           let l : Own = own g ob c b in
           set_then (lowered g.t) g.thread g.answer g.cs' g.s g.t _ place (behind rch (behind via (start g))) (ir.constant unsigned_long (pos (size_in g.t.structs ty))) _ q (own g ob a b) h refl
-          (stores c (agrees_on g vs tm c ob (behind via (start g)) (omega (arith, above_behind via (start g))) agrees all) place st refl (actions.copy to p (size_in g.t.structs ty) (align_in g.t.structs ty) true)
+          (stores c (agrees_on g vs tm c ob (behind via (start g)) (omega (arith, above_behind via (start g))) agrees all) place false st refl (actions.copy to p (size_in g.t.structs ty) (align_in g.t.structs ty) true)
           (action_is place l st (to ∷ p ∷ []) (values.Num (num unsigned_long (pos (size_in g.t.structs ty))) ∷ [])
           (one_more_place place l (reached via (start g)) (reached rch (behind via (start g)) ∷ []) to (p ∷ []) (address_reached place l via (start g) to (reaches_below tm c via (start g) to leads all))
           (one_more_place place l (reached rch (behind via (start g))) [] p [] (address_reached place l rch (behind via (start g)) p (reaches_below a c rch (behind via (start g)) p points under)) refl))
@@ -241,12 +241,12 @@ module _ (g : Setting) (vs : List Variable) (ob : ℕ → Option ℕ) (b : Block
     agrees = agrees;
     go = λ v a vkind below is points.
         let ne : suc (behind via (start g)) ≢ behind via (start g) = λ e. absurd (omega (arith, e)) in
-        computes_alike g ob b (λ z. (place_way (here g) (tree.place_of x) (values.Pointer to) w).go z (now g vs b)) place (suc (behind via (start g))) (behind via (start g)) (behind via (start g)) ne
+        computes_alike g ob b (λ z. (place_way (here g) (tree.place_of x) false (values.Pointer to) w).go z (now g vs b)) place (suc (behind via (start g))) (behind via (start g)) (behind via (start g)) ne
         (forms.acts (tree.place_of x) (ir.store (access_of_type (tree.type_of x))) (reached via (start g) ∷ []) None (behind via (start g) ∷ []) r) q a op (tree.type_of x) (tree.type_of right) scalar can v by vkind kind is
         (below (behind via (start g)) (omega arith) ∙ holds)
         (λ z zkind c but cis.
         let under : Below (behind via (start g)) tm c = λ i lt. but i (λ e. absurd (omega (arith, lt, e))) (λ e. absurd (omega (arith, lt, e))) (λ e. absurd (omega (arith, lt, e))) ∙ below i (omega (arith, lt)) in
-        (place_goes (tree.place_of x) to (access_of_type (tree.type_of x)) via found leads).go z c zkind under cis (points_found c (behind via (start g)) z cis));
+        (place_goes (tree.place_of x) false to (access_of_type (tree.type_of x)) via found leads).go z c zkind under cis (points_found c (behind via (start g)) z cis));
   }
 
   pub update_local_goes : (place i : ℕ) (l : tree.Local) (x right : tree.Expr) (op : Op) (rch : Reach) → slice_get g.f.locals i ≡ Some l → home (frame g) i ≡ None → tree.type_of x ≡ l.ty → IsScalar (tree.type_of x)

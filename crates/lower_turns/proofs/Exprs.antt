@@ -10,7 +10,7 @@ use Rattle.block_store.specs.declared.values.Value.TheVariants as values
 use Rattle.block_store.specs.Blocks.{Blocks}
 use Rattle.c_tree.specs.Typed as tree
 use Rattle.c_tree.specs.TypedForm.{IsScalar, IsFunc, IsTyped, IsTypedNode, AreTyped, AreArguments, Signature, signature_of}
-use Rattle.c_meaning.specs.Values.{on_numbers, forward, backward, distance, on_pointers, selects, member_offset, element_size, access_of_type, tests, negates, converts}
+use Rattle.c_meaning.specs.Values.{on_numbers, forward, backward, distance, on_pointers, selects, member_offset, element_size, access_of_type, is_atomic, tests, negates, converts}
 use Rattle.c_meaning.specs.Control.{Variable, Wait, wanted, dropped, Callee, function, library}
 use Rattle.c_meaning.specs.Turns.{WayOfUse, run, run_node, run_place_node, run_arguments, calls, only_way, read_way, first_way, argument_way}
 use Rattle.struct_ir.specs.Nodes as ir
@@ -163,17 +163,17 @@ module _ (g : Setting) (busy : Calls g.t) where
         at_once vs ob b tm w u r q (access_of_type ty) found goes place ir.null (values.Pointer Null) refl (subst (λ y. HasKind y (values.Pointer Null)) (sym (pointer_access ty h)) tt) (set_here tm u (pointer Null))
     value_sim place ty (tree.literal i) h s vs ob b tm w u r q goes = elim (subst HasValues h.2 s) [ ]
     value_sim place ty (tree.global i) h s vs ob b tm w u r q goes =
-        global_place vs ob b tm (read_way (here g) place (access_of_type ty) w) u (forms.loads place ty found u r) q (read_goes g vs ob b tm w u r q busy (access_of_type ty) goes place found) place i
+        global_place vs ob b tm (read_way (here g) place (access_of_type ty) (is_atomic ty) w) u (forms.loads place ty found u r) q (read_goes g vs ob b tm w u r q busy (access_of_type ty) goes place (is_atomic ty) found) place i
     value_sim place ty (tree.local i) h s vs ob b tm w u r q goes =
         local_alike g vs ob b tm w u r q busy place i ty h.0 h.1 h.2 (home (frame g) i) refl goes
     value_sim place ty (tree.deref e) h s vs ob b tm w u r q goes =
-        expr_sim e h.0 (subst IsScalar (sym h.1) tt) vs ob b tm (read_way (here g) place (access_of_type ty) w) u (forms.loads place ty (pointed (frame g) e) u r) q
-        (of_kind g vs ob b tm (read_way (here g) place (access_of_type ty) w) u accesses.Pointer (access_of_type (tree.type_of e)) (pointed (frame g) e) (forms.loads place ty (pointed (frame g) e) u r) q (sym (ap access_of_type h.1))
-        (read_goes g vs ob b tm w u r q busy (access_of_type ty) goes place (pointed (frame g) e)))
+        expr_sim e h.0 (subst IsScalar (sym h.1) tt) vs ob b tm (read_way (here g) place (access_of_type ty) (is_atomic ty) w) u (forms.loads place ty (pointed (frame g) e) u r) q
+        (of_kind g vs ob b tm (read_way (here g) place (access_of_type ty) (is_atomic ty) w) u accesses.Pointer (access_of_type (tree.type_of e)) (pointed (frame g) e) (forms.loads place ty (pointed (frame g) e) u r) q (sym (ap access_of_type h.1))
+        (read_goes g vs ob b tm w u r q busy (access_of_type ty) goes place (is_atomic ty) (pointed (frame g) e)))
     value_sim place ty (tree.member e i) h s vs ob b tm w u r q goes =
-        place_sim e h.0 (member_place g.t g.n g.f g.a e i ty g.is_func.locals h.0 h.1 h.2) vs ob b tm (only_way place (selects (member_offset g.t.structs (tree.type_of e) i)) (read_way (here g) place (access_of_type ty) w)) u _ q
-        (member_goes g vs ob b tm (read_way (here g) place (access_of_type ty) w) u (forms.loads place ty (member_reach (member_offset g.t.structs (tree.type_of e) i) (reach (frame g) e)) u r) q place (member_offset g.t.structs (tree.type_of e) i) (reach (frame g) e)
-        (offset_small g.t g.well (tree.type_of e) i) (read_goes g vs ob b tm w u r q busy (access_of_type ty) goes place (member_reach (member_offset g.t.structs (tree.type_of e) i) (reach (frame g) e))))
+        place_sim e h.0 (member_place g.t g.n g.f g.a e i ty g.is_func.locals h.0 h.1 h.2) vs ob b tm (only_way place (selects (member_offset g.t.structs (tree.type_of e) i)) (read_way (here g) place (access_of_type ty) (is_atomic ty) w)) u _ q
+        (member_goes g vs ob b tm (read_way (here g) place (access_of_type ty) (is_atomic ty) w) u (forms.loads place ty (member_reach (member_offset g.t.structs (tree.type_of e) i) (reach (frame g) e)) u r) q place (member_offset g.t.structs (tree.type_of e) i) (reach (frame g) e)
+        (offset_small g.t g.well (tree.type_of e) i) (read_goes g vs ob b tm w u r q busy (access_of_type ty) goes place (is_atomic ty) (member_reach (member_offset g.t.structs (tree.type_of e) i) (reach (frame g) e))))
     value_sim place ty (tree.address_of e) h s vs ob b tm w u r q goes =
         place_sim e h.0 (memory_place g.t g.n g.f g.a (tree.node_of e) h.1) vs ob b tm w u r q
         (anyhow g vs ob b tm w u accesses.Pointer (reach (frame g) e) r q (of_kind g vs ob b tm w u (access_of_type ty) accesses.Pointer found r q (ap access_of_type h.2) goes))

@@ -11,10 +11,10 @@ use Rattle.block_store.specs.Runs.{Turn}
 use Rattle.c_tree.specs.Typed as tree
 use Rattle.c_tree.specs.TypedForm.{Jumps, IsScalar, IsLvalue, Fits, IsTyped, IsTypedNode, CanUpdate, Converts, IsLocal, IsResult, IsFunc, type_of_result, Signature, signature_of, IsAtomicCall, IsLibCall}
 use Rattle.c_tree.specs.TypedLayout.{size_in}
-use Rattle.c_meaning.specs.Values.{access_of_type}
+use Rattle.c_meaning.specs.Values.{access_of_type, is_atomic}
 use Rattle.c_meaning.specs.Control as source
 use Rattle.c_meaning.specs.Control.{Variable, Control, dropped}
-use Rattle.c_meaning.specs.Turns.{Now, Way, run, run_place, local_way, place_way, left_way, struct_left_way, update_left_way, update_local_way, update_of, is_block, local_at, declared_in, made_local, with_variable, ended_local, assigns, assigns_object, updates, declares, is_struct}
+use Rattle.c_meaning.specs.Turns.{Now, Way, run, run_place, local_way, place_way, left_way, struct_left_way, update_left_way, update_local_way, update_of, is_block, is_atomic_local, local_at, declared_in, made_local, with_variable, ended_local, assigns, assigns_object, updates, declares, is_struct}
 use Rattle.struct_ir.specs.Nodes as ir
 use Rattle.struct_ir.specs.Nodes.{Nodes}
 use Rattle.struct_ir.specs.Structured.{Position, then_}
@@ -190,16 +190,16 @@ module _ (g : Setting) where
 
     module _ (busy : Calls g.t) where
       some_at : (place i : ℕ) (l : tree.Local) (e : tree.Expr) → slice_get g.f.locals i ≡ Some l → IsTyped (ctx g.t g.n g.f) e → Fits (tree.type_of e) l.ty → IsScalar (tree.type_of e) → (m : Bool) → is_block (local_at (here g) i) ≡ m
-          → Alike g (if m then run (here g) e (place_way (here g) place (values.Pointer (To (length (ended_local i (now g vs b)).world.blocks) 0)) w) (made_local (here g) i (now g vs b))
+          → Alike g (if m then run (here g) e (place_way (here g) place (is_atomic_local (local_at (here g) i)) (values.Pointer (To (length (ended_local i (now g vs b)).world.blocks) 0)) w) (made_local (here g) i (now g vs b))
           else run (here g) e (local_way i w) (with_variable i source.unset (now g vs b)))
           (then_ (forms.begins place i (home (frame g) i) (expr_nodes (frame g) e (start g) (forms.initialises place (home (frame g) i) i (start g) (tree.type_of e) r))) q) (own g ob tm b)
       some_at place i l e there typed fits scalar true h =
           let k = block_some i h in
           let lt : i < start g = omega (arith, start_is g, within_locals g vs tm ob agrees i k.0 k.1, agrees.count) in
-          block_begins (λ x. run (here g) e (place_way (here g) place (values.Pointer (To (length (ended_local i (now g vs b)).world.blocks) 0)) w) x) place i k.0 l (expr_nodes (frame g) e (start g) (forms.initialises place (home (frame g) i) i (start g) (tree.type_of e) r)) there k.1
-          (λ xs d o z is. subst (λ (hm : Option ℕ). Alike g (run (here g) e (place_way (here g) place (values.Pointer (To (length (ended_local i (now g vs b)).world.blocks) 0)) w) (now g xs d)) (then_ (expr_nodes (frame g) e (start g) (forms.initialises place hm i (start g) (tree.type_of e) r)) q) (own g o tm d)) (sym k.1)
-          (expr_sim g busy e typed scalar xs o d tm (place_way (here g) place (values.Pointer (To (length (ended_local i (now g vs b)).world.blocks) 0)) w) (start g) (forms.initialises place (Some k.0) i (start g) (tree.type_of e) r) q
-          (block_goes g xs o d tm z io w left r q goes place i k.0 (length (ended_local i (now g vs b)).world.blocks) (access_of_type (tree.type_of e)) (pointed (frame g) e) k.1 lt is)))
+          block_begins (λ x. run (here g) e (place_way (here g) place (is_atomic_local (local_at (here g) i)) (values.Pointer (To (length (ended_local i (now g vs b)).world.blocks) 0)) w) x) place i k.0 l (expr_nodes (frame g) e (start g) (forms.initialises place (home (frame g) i) i (start g) (tree.type_of e) r)) there k.1
+          (λ xs d o z is. subst (λ (hm : Option ℕ). Alike g (run (here g) e (place_way (here g) place (is_atomic_local (local_at (here g) i)) (values.Pointer (To (length (ended_local i (now g vs b)).world.blocks) 0)) w) (now g xs d)) (then_ (expr_nodes (frame g) e (start g) (forms.initialises place hm i (start g) (tree.type_of e) r)) q) (own g o tm d)) (sym k.1)
+          (expr_sim g busy e typed scalar xs o d tm (place_way (here g) place (is_atomic_local (local_at (here g) i)) (values.Pointer (To (length (ended_local i (now g vs b)).world.blocks) 0)) w) (start g) (forms.initialises place (Some k.0) i (start g) (tree.type_of e) r) q
+          (block_goes g xs o d tm z io w left r q goes place _ i k.0 (length (ended_local i (now g vs b)).world.blocks) (access_of_type (tree.type_of e)) (pointed (frame g) e) k.1 lt is)))
       some_at place i l e there typed fits scalar false h =
           let none = register_none i h in
           register_begins (λ x. run (here g) e (local_way i w) x) place i l (expr_nodes (frame g) e (start g) (forms.initialises place (home (frame g) i) i (start g) (tree.type_of e) r)) there none
@@ -215,7 +215,7 @@ module _ (g : Setting) where
       -- ---- assignments
 
       object_at : (x right : tree.Expr) → IsTyped (ctx g.t g.n g.f) x → IsTyped (ctx g.t g.n g.f) right → IsPlace (frame g) (tree.node_of x) → Fits (tree.type_of right) (tree.type_of x) → (m : Bool) → is_struct (tree.type_of x) ≡ m
-          → Alike g ((if m then run_place (here g) x (struct_left_way (here g) (tree.place_of x) (tree.type_of x) right w) else run_place (here g) x (left_way (here g) (tree.place_of x) right w)) (now g vs b))
+          → Alike g ((if m then run_place (here g) x (struct_left_way (here g) (tree.place_of x) (tree.type_of x) right w) else run_place (here g) x (left_way (here g) (tree.place_of x) (is_atomic (tree.type_of x)) right w)) (now g vs b))
           (then_ (if m then copy_nodes (frame g) x right (start g) r else store_nodes (frame g) x right (start g) r) q) (own g ob tm b)
       object_at x right tx tr p fits true e =
           let s = struct_of (tree.type_of x) e in
@@ -226,8 +226,8 @@ module _ (g : Setting) where
           (struct_left_goes g vs ob b io w left r q goes tm agrees (tree.place_of x) (tree.type_of x) right (reach (frame g) x) tr right_place small (place_sim g busy right tr right_place))
       object_at x right tx tr p fits false e =
           let scalar = fits_number (tree.type_of right) (tree.type_of x) fits e in
-          place_sim g busy x tx p vs ob b tm (left_way (here g) (tree.place_of x) right w) (start g) _ q
-          (left_goes g vs ob b io w left r q goes tm agrees (tree.place_of x) right (access_of_type (tree.type_of x)) (reach (frame g) x) tr scalar (fits_access (tree.type_of right) (tree.type_of x) fits) (expr_sim g busy right tr scalar))
+          place_sim g busy x tx p vs ob b tm (left_way (here g) (tree.place_of x) (is_atomic (tree.type_of x)) right w) (start g) _ q
+          (left_goes g vs ob b io w left r q goes tm agrees (tree.place_of x) (is_atomic (tree.type_of x)) right (access_of_type (tree.type_of x)) (reach (frame g) x) tr scalar (fits_access (tree.type_of right) (tree.type_of x) fits) (expr_sim g busy right tr scalar))
 
       object_alike : (x right : tree.Expr) → IsTyped (ctx g.t g.n g.f) x → IsTyped (ctx g.t g.n g.f) right → IsPlace (frame g) (tree.node_of x) → Fits (tree.type_of right) (tree.type_of x)
           → Alike g (assigns_object (here g) x right w (now g vs b)) (then_ (object_assign (frame g) x right (start g) r) q) (own g ob tm b)

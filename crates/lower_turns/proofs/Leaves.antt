@@ -78,7 +78,7 @@ module _ (g : Setting) where
     module _ (n : ℕ) (f : tree.Func) (y : Around) (xs : List Variable) (a : ℕ → Held) (c : ℕ → Option ℕ) (k : source.Use) (u : ℕ) (r : Nodes) (q : Position) (w : World) (all : AllBegin g.t w) (bs : Blocks) where
       wanted_lands : (how : Access) (place : ℕ) (cs : List Caller) (cs' : List (Point Position Own)) → Calls g.t → InCall g.t n f → y.first ≤ u → AgreesIn f y xs a c
           → AtE g.t n f c a y k u how found r q → Callers g.t n cs cs' → (v : Option Value) (temp : Option ℕ) (h : Held) → ReturnsAs how v temp h
-          → Together g.t (runs.went (record { function = n; locals = xs; point = after_call (wanted place k) v; callers = cs }) w)
+          → Together g.t (runs.went (record { function = n; locals = xs; point = after_call (wanted place k) v; callers = cs; touched = [] }) w)
           (runs.went (record { top = record { at = then_ (forms.sets place u (ir.copy u) r) q; own = record { function = n; temps = set_at a u h; objects = c; blocks = bs } }; callers = cs' }) w)
       wanted_lands how place cs cs' busy call above agrees at callers _ _ _ (with_value v t kind) =
           let d : ℕ → Held = set_at a u (value v) in
@@ -107,14 +107,14 @@ module _ (g : Setting) where
         (finish_so g.t (actions.with_blocks g.s (over (lowered g.t) (own g ob tm b)).blocks) g.begun g.thread g.answer (number_in v))))
     returns_at temp v _ _ _ e (one_wants {n} {f} {vs = xs} {tm = a} {ob = c} {b = bs} {a = y} {k} {u} {r} {q} {cs} {cs'} m f' place ts there busy call above agrees at callers) kept w is =
         let now_f : f' ≡ g.f = same_Some f' g.f (sym there ∙ ap (slice_get g.t.funcs) e ∙ g.call.there) in
-        subst (λ x. Together g.t (plainly g.answer (runs.went (record { function = n; locals = xs; point = after_call (wanted place k) v; callers = cs }) x))
+        subst (λ x. Together g.t (plainly g.answer (runs.went (record { function = n; locals = xs; point = after_call (wanted place k) v; callers = cs; touched = [] }) x))
         (turned (if_fits (is_plain g.answer) (threads.went (record { top = record { at = then_ (forms.sets place u (ir.copy u) r) q; own = record { function = n; temps = set_at a u (given (own g ob tm b) temp); objects = c; blocks = (over (lowered g.t) (own g ob tm b)).blocks } }; callers = cs' })
         (actions.with_blocks g.s (over (lowered g.t) (own g ob tm b)).blocks))))) (sym is)
         (plainly_alike g.answer _ _ (actions.with_blocks g.s (over (lowered g.t) (own g ob tm b)).blocks)
         (wanted_lands n f y xs a c k u r q (actions.with_blocks g.s (over (lowered g.t) (own g ob tm b)).blocks) g.begun (over (lowered g.t) (own g ob tm b)).blocks (access_of_type f'.result) place cs cs' busy call above agrees at callers v temp (given (own g ob tm b) temp)
         (subst (λ z. ReturnsAs (access_of_type z) v temp (given (own g ob tm b) temp)) (ap (λ (z : tree.Func). z.result) (sym now_f)) kept)))
     returns_at temp v _ _ _ e (one_drops {n} {f} {vs = xs} {tm = a} {ob = c} {b = bs} {k = k} {r = r} {q = q} {cs} {cs'} m place ts busy call agrees at callers) kept w is =
-        subst (λ x. Together g.t (plainly g.answer (runs.went (record { function = n; locals = xs; point = source.begins k; callers = cs }) x))
+        subst (λ x. Together g.t (plainly g.answer (runs.went (record { function = n; locals = xs; point = source.begins k; callers = cs; touched = [] }) x))
         (turned (if_fits (is_plain g.answer) (threads.went (record { top = record { at = then_ r q; own = record { function = n; temps = a; objects = c; blocks = (over (lowered g.t) (own g ob tm b)).blocks } }; callers = cs' })
         (actions.with_blocks g.s (over (lowered g.t) (own g ob tm b)).blocks))))) (sym is)
         (plainly_alike g.answer _ _ (actions.with_blocks g.s (over (lowered g.t) (own g ob tm b)).blocks)

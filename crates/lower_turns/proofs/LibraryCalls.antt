@@ -18,7 +18,7 @@ use Rattle.c_tree.specs.TypedForm.{IsAtomicCall, IsLibCall, AreArguments, IsNth,
 use Rattle.c_tree.specs.TypedPrinting.{parts}
 use Rattle.c_meaning.specs.Values.{access_of_type}
 use Rattle.c_meaning.specs.Control.{Variable, Wait}
-use Rattle.c_meaning.specs.Library.{numbers_of, pointers_of, addend, adds, value_of_call, free_mutex}
+use Rattle.c_meaning.specs.Library.{numbers_of, pointers_of, addend, adds, value_of_call, names_atomic, free_mutex}
 use Rattle.c_meaning.specs.Library as meant
 use Rattle.c_meaning.specs.Turns.{stays, after_call, calls_library, acts}
 use Rattle.struct_ir.specs.Nodes as ir
@@ -34,7 +34,7 @@ use Rattle.lower_turns.proofs.Registers.{set_here, set_there, below_same, below_
 use Rattle.lower_turns.proofs.Values.{kind_fits}
 use Rattle.lower_turns.proofs.Operands.{fits_access}
 use Rattle.lower_turns.proofs.Changes.{addend_type, change_fits, compare_fits, addend_alike}
-use Rattle.lower_turns.proofs.Steps.{set_then, step_alike}
+use Rattle.lower_turns.proofs.Steps.{set_then, acts_alike}
 use Rattle.lower_turns.proofs.Setting.{Stands, Setting, here, now, own, Alike}
 use Rattle.lower_turns.proofs.Actions.{GivesKind, GivesNone, IfWent, if_went, copy_so, store_so, allocate_so, reallocate_so, change_so, compare_so, free_so, print_so, lock_so, unlock_so, destroy_so, start_so, join_so}
 use Rattle.lower_turns.proofs.Calls.{WaitIs, nth_mapped}
@@ -89,10 +89,10 @@ module _ (g : Setting) (busy : Calls g.t) (vs : List Variable) (ob : ℕ → Opt
       lands_value g busy vs ob b tm agrees place ty u kw r q waits v (set_at tm u (value v)) w (subst (λ z. HasKind z v) e k) (below_set u u tm tm (value v) (omega arith) (below_same u tm)) (set_here tm u (value v)) all
 
   -- a step whose value comes to the register
-  kind_alike : (how : Access) → how ≡ access_of_type ty → (st : Step) → st.to ≡ Some u → (act : SharedAction) → action_of place (own g ob tm b) st ≡ Ok act → IfWent g.t (GivesKind how) (acted world_now g.thread g.answer act)
-      → Alike g (acts (here g) place act (λ v w. stays (here g) vs (after_call kw v) w) (now g vs b)) (then_ (more_nodes (plain place (ir.step st)) r) q) (own g ob tm b)
-  kind_alike how e st to act is so =
-      step_alike (lowered g.t) g.thread g.answer g.cs' g.s g.t (λ v w. stays (here g) vs (after_call kw v) w) place st r q (own g ob tm b) act is
+  kind_alike : (atomic : Bool) (how : Access) → how ≡ access_of_type ty → (st : Step) → st.to ≡ Some u → (act : SharedAction) → action_of place (own g ob tm b) st ≡ Ok act → IfWent g.t (GivesKind how) (acted world_now g.thread g.answer act)
+      → Alike g (acts (here g) place atomic act (λ v w. stays (here g) vs (after_call kw v) w) (now g vs b)) (then_ (more_nodes (plain place (ir.step st)) r) q) (own g ob tm b)
+  kind_alike atomic how e st to act is so =
+      acts_alike (lowered g.t) g.thread g.answer g.cs' g.s g.t (λ v w. stays (here g) vs (after_call kw v) w) _ place st r q (own g ob tm b) act is
       (λ v w d. let h = if_went g.t (GivesKind how) (acted world_now g.thread g.answer act) v w so d in
       subst (λ (o : Option ℕ). Lands g busy vs ob b tm agrees kw v r q (set_if tm o v) w) (sym to) (lands_kind how e v w h.0 h.1))
 
@@ -104,7 +104,7 @@ module _ (g : Setting) (busy : Calls g.t) (vs : List Variable) (ob : ℕ → Opt
 
   pub print_alike : (pieces : List tree.Piece) (es : tree.Exprs) (args : List Value) → ty ≡ tree.integer int → AreScalars es → Stand tm es args u → Ends (tree.print pieces) args (lib_nodes place (tree.print pieces) es u r)
   print_alike pieces es args e s h =
-      kind_alike (accesses.Number int) (sym (ap access_of_type e)) (record { action = ir.print pieces; places = text_places es u; to = Some u; temps = number_temps es u; slots = [] }) refl
+      kind_alike false (accesses.Number int) (sym (ap access_of_type e)) (record { action = ir.print pieces; places = text_places es u; to = Some u; temps = number_temps es u; slots = [] }) refl
       (actions.print (parts bytes text pieces (numbers_of args) (pointers_of args))) (print_is place (own g ob tm b) pieces es args u (Some u) s h)
       (print_so g.t world_now g.begun g.thread g.answer (parts bytes text pieces (numbers_of args) (pointers_of args)))
 
@@ -116,7 +116,7 @@ module _ (g : Setting) (busy : Calls g.t) (vs : List Variable) (ob : ℕ → Opt
   malloc_alike es (values.Pointer p ∷ args) e h = elim (h.0) [ ]
   malloc_alike es (values.Num n ∷ x ∷ args) e h = elim (h.2) [ ]
   malloc_alike es (values.Num n ∷ []) e h =
-      kind_alike accesses.Pointer (sym (ap access_of_type e)) (record { action = ir.malloc; places = []; to = Some u; temps = u ∷ []; slots = [] }) refl
+      kind_alike false accesses.Pointer (sym (ap access_of_type e)) (record { action = ir.malloc; places = []; to = Some u; temps = u ∷ []; slots = [] }) refl
       (actions.allocate (unsigned_abs n.value) Unknown)
       (action_is place (own g ob tm b) (record { action = ir.malloc; places = []; to = Some u; temps = u ∷ []; slots = [] }) [] (values.Num n ∷ []) refl (one_more_read place (own g ob tm b) u [] (values.Num n) [] h.1 refl) ∙ count_is n (actions.allocate (unsigned_abs n.value) Unknown) h.0)
       (allocate_so g.t world_now g.begun g.thread g.answer (unsigned_abs n.value) Unknown)
@@ -129,7 +129,7 @@ module _ (g : Setting) (busy : Calls g.t) (vs : List Variable) (ob : ℕ → Opt
   calloc_alike es (values.Num n ∷ values.Num m ∷ x ∷ args) e h = elim (h.2.2) [ ]
   calloc_alike es (values.Num n ∷ values.Num m ∷ []) e h =
       let act : SharedAction = actions.allocate (unsigned_abs n.value * unsigned_abs m.value) (Byte 0) in
-      kind_alike accesses.Pointer (sym (ap access_of_type e)) (record { action = ir.calloc; places = []; to = Some u; temps = u ∷ suc u ∷ []; slots = [] }) refl act
+      kind_alike false accesses.Pointer (sym (ap access_of_type e)) (record { action = ir.calloc; places = []; to = Some u; temps = u ∷ suc u ∷ []; slots = [] }) refl act
       (action_is place (own g ob tm b) (record { action = ir.calloc; places = []; to = Some u; temps = u ∷ suc u ∷ []; slots = [] }) [] (values.Num n ∷ values.Num m ∷ []) refl
       (one_more_read place (own g ob tm b) u (suc u ∷ []) (values.Num n) (values.Num m ∷ []) h.1
       (one_more_read place (own g ob tm b) (suc u) [] (values.Num m) [] h.2.1 refl))
@@ -143,7 +143,7 @@ module _ (g : Setting) (busy : Calls g.t) (vs : List Variable) (ob : ℕ → Opt
   realloc_alike es (values.Pointer p ∷ values.Pointer o ∷ args) e h = elim (h.2.0) [ ]
   realloc_alike es (values.Pointer p ∷ values.Num n ∷ x ∷ args) e h = elim (h.2.2) [ ]
   realloc_alike es (values.Pointer p ∷ values.Num n ∷ []) e h =
-      kind_alike accesses.Pointer (sym (ap access_of_type e)) (record { action = ir.realloc; places = []; to = Some u; temps = u ∷ suc u ∷ []; slots = [] }) refl
+      kind_alike false accesses.Pointer (sym (ap access_of_type e)) (record { action = ir.realloc; places = []; to = Some u; temps = u ∷ suc u ∷ []; slots = [] }) refl
       (actions.reallocate p (unsigned_abs n.value))
       (action_is place (own g ob tm b) (record { action = ir.realloc; places = []; to = Some u; temps = u ∷ suc u ∷ []; slots = [] }) [] (values.Pointer p ∷ values.Num n ∷ []) refl
       (one_more_read place (own g ob tm b) u (suc u ∷ []) (values.Pointer p) (values.Num n ∷ []) h.1
@@ -160,7 +160,7 @@ module _ (g : Setting) (busy : Calls g.t) (vs : List Variable) (ob : ℕ → Opt
   start_alike m es (values.Pointer p ∷ values.Pointer o ∷ x ∷ args) e c h = elim (h.2.2) [ ]
   start_alike m es (values.Pointer p ∷ values.Pointer o ∷ []) e c h =
       let f = nth_mapped signature_of g.t.funcs m c.0 c.1 in
-      kind_alike (accesses.Number int) (sym (ap access_of_type e)) (record { action = ir.start m; places = at_temp u ∷ []; to = Some u; temps = suc u ∷ []; slots = [] }) refl
+      kind_alike false (accesses.Number int) (sym (ap access_of_type e)) (record { action = ir.start m; places = at_temp u ∷ []; to = Some u; temps = suc u ∷ []; slots = [] }) refl
       (actions.start p m o)
       (action_is place (own g ob tm b) (record { action = ir.start m; places = at_temp u ∷ []; to = Some u; temps = suc u ∷ []; slots = [] }) (p ∷ []) (values.Pointer o ∷ [])
       (one_more_place place (own g ob tm b) (at_temp u) [] p [] (at_register place (own g ob tm b) u p h.1) refl)
@@ -174,7 +174,7 @@ module _ (g : Setting) (busy : Calls g.t) (vs : List Variable) (ob : ℕ → Opt
   join_alike es (values.Num p ∷ values.Num n ∷ args) e h = elim (h.2.0) [ ]
   join_alike es (values.Num p ∷ values.Pointer o ∷ x ∷ args) e h = elim (h.2.2) [ ]
   join_alike es (values.Num n ∷ values.Pointer o ∷ []) e h =
-      kind_alike (accesses.Number int) (sym (ap access_of_type e)) (record { action = ir.join; places = at_temp (suc u) ∷ []; to = Some u; temps = u ∷ []; slots = [] }) refl
+      kind_alike false (accesses.Number int) (sym (ap access_of_type e)) (record { action = ir.join; places = at_temp (suc u) ∷ []; to = Some u; temps = u ∷ []; slots = [] }) refl
       (actions.join (unsigned_abs n.value) o)
       (action_is place (own g ob tm b) (record { action = ir.join; places = at_temp (suc u) ∷ []; to = Some u; temps = u ∷ []; slots = [] }) (o ∷ []) (values.Num n ∷ [])
       (one_more_place place (own g ob tm b) (at_temp (suc u)) [] o [] (at_register place (own g ob tm b) (suc u) o h.2.1) refl)
@@ -187,9 +187,9 @@ module _ (g : Setting) (busy : Calls g.t) (vs : List Variable) (ob : ℕ → Opt
   -- a step that gives none, and what the call's value then is
   none_alike : (which : tree.Lib) (args : List Value) (ns : Nodes) (a : ℕ → Held) (st : Step) → st.to ≡ None → (act : SharedAction) → action_of place (own g ob a b) st ≡ Ok act → IfWent g.t GivesNone (acted world_now g.thread g.answer act)
       → ((v : Option Value) (w : World) → GivesNone v → AllBegin g.t w → Lands g busy vs ob b tm agrees kw (value_of_call which args v) ns q a w)
-      → Alike g (acts (here g) place act (λ v w. stays (here g) vs (after_call kw (value_of_call which args v)) w) (now g vs b)) (then_ (more_nodes (plain place (ir.step st)) ns) q) (own g ob a b)
+      → Alike g (acts (here g) place (names_atomic which) act (λ v w. stays (here g) vs (after_call kw (value_of_call which args v)) w) (now g vs b)) (then_ (more_nodes (plain place (ir.step st)) ns) q) (own g ob a b)
   none_alike which args ns a st to act is so lands =
-      step_alike (lowered g.t) g.thread g.answer g.cs' g.s g.t (λ v w. stays (here g) vs (after_call kw (value_of_call which args v)) w) place st ns q (own g ob a b) act is
+      acts_alike (lowered g.t) g.thread g.answer g.cs' g.s g.t (λ v w. stays (here g) vs (after_call kw (value_of_call which args v)) w) _ place st ns q (own g ob a b) act is
       (λ v w d. let h = if_went g.t GivesNone (acted world_now g.thread g.answer act) v w so d in
       subst (λ (o : Option ℕ). Lands g busy vs ob b tm agrees kw (value_of_call which args v) ns q (set_if a o v) w) (sym to) (lands v w h.0 h.1))
 
@@ -272,14 +272,14 @@ module _ (g : Setting) (busy : Calls g.t) (vs : List Variable) (ob : ℕ → Opt
 
   -- a number is added, or taken away
   sum_alike : (away : Bool) (s : IntType) (p : Ptr) (n : Num) → ty ≡ tree.integer s → tm u ≡ value (values.Pointer p) → tm (suc u) ≡ value (values.Num n) → n.ty ≡ s
-      → Alike g (acts (here g) place (adds p (addend away n)) (λ v w. stays (here g) vs (after_call kw v) w) (now g vs b)) (then_ (change_nodes place away s (at_temp u) (suc u) (Some u) r) q) (own g ob tm b)
+      → Alike g (acts (here g) place true (adds p (addend away n)) (λ v w. stays (here g) vs (after_call kw v) w) (now g vs b)) (then_ (change_nodes place away s (at_temp u) (suc u) (Some u) r) q) (own g ob tm b)
   sum_alike away s p n e to by is =
       let m : Num = addend away n in
       let is_s : m.ty ≡ s = addend_type away n s is in
       let st : Step = record { action = ir.change Add s; places = at_temp u ∷ []; to = Some u; temps = suc u ∷ []; slots = [] } in
       addend_alike g ob b _ place s (at_temp u) (suc u) (Some u) n r q tm by is away
       (λ c under holds.
-      step_alike (lowered g.t) g.thread g.answer g.cs' g.s g.t (λ v w. stays (here g) vs (after_call kw v) w) place st r q (own g ob c b) (actions.change p m.ty Add m.value)
+      acts_alike (lowered g.t) g.thread g.answer g.cs' g.s g.t (λ v w. stays (here g) vs (after_call kw v) w) _ place st r q (own g ob c b) (actions.change p m.ty Add m.value)
       (action_is place (own g ob c b) st (p ∷ []) (values.Num m ∷ [])
       (one_more_place place (own g ob c b) (at_temp u) [] p [] (at_register place (own g ob c b) u p (under u (omega arith) ∙ to)) refl)
       (one_more_read place (own g ob c b) (suc u) [] (values.Num m) [] holds refl)
@@ -288,10 +288,10 @@ module _ (g : Setting) (busy : Calls g.t) (vs : List Variable) (ob : ℕ → Opt
       lands_in c under (accesses.Number m.ty) (ap accesses.Number is_s ∙ sym (ap access_of_type e)) v w h.0 h.1))
 
   swap_alike : (s : IntType) (p : Ptr) (n : Num) → ty ≡ tree.integer s → tm u ≡ value (values.Pointer p) → tm (suc u) ≡ value (values.Num n) → n.ty ≡ s
-      → Alike g (acts (here g) place (actions.change p n.ty Swap n.value) (λ v w. stays (here g) vs (after_call kw v) w) (now g vs b)) (then_ (forms.acts place (ir.change Swap s) (at_temp u ∷ []) (Some u) (suc u ∷ []) r) q) (own g ob tm b)
+      → Alike g (acts (here g) place true (actions.change p n.ty Swap n.value) (λ v w. stays (here g) vs (after_call kw v) w) (now g vs b)) (then_ (forms.acts place (ir.change Swap s) (at_temp u ∷ []) (Some u) (suc u ∷ []) r) q) (own g ob tm b)
   swap_alike s p n e to by is =
       let st : Step = record { action = ir.change Swap s; places = at_temp u ∷ []; to = Some u; temps = suc u ∷ []; slots = [] } in
-      kind_alike (accesses.Number n.ty) (ap accesses.Number is ∙ sym (ap access_of_type e)) st refl (actions.change p n.ty Swap n.value)
+      kind_alike true (accesses.Number n.ty) (ap accesses.Number is ∙ sym (ap access_of_type e)) st refl (actions.change p n.ty Swap n.value)
       (action_is place (own g ob tm b) st (p ∷ []) (values.Num n ∷ [])
       (one_more_place place (own g ob tm b) (at_temp u) [] p [] (at_register place (own g ob tm b) u p to) refl)
       (one_more_read place (own g ob tm b) (suc u) [] (values.Num n) [] by refl)
@@ -299,7 +299,7 @@ module _ (g : Setting) (busy : Calls g.t) (vs : List Variable) (ob : ℕ → Opt
       (change_so g.t world_now g.begun g.thread g.answer p n.ty Swap n.value)
 
   put_alike : (s : IntType) (p : Ptr) (n : Num) → ty ≡ tree.void → tm u ≡ value (values.Pointer p) → tm (suc u) ≡ value (values.Num n) → n.ty ≡ s
-      → Alike g (acts (here g) place (actions.store p (values.Num n)) (λ v w. stays (here g) vs (after_call kw v) w) (now g vs b)) (then_ (forms.acts place (ir.store (accesses.Number s)) (at_temp u ∷ []) None (suc u ∷ []) r) q) (own g ob tm b)
+      → Alike g (acts (here g) place true (actions.store p (values.Num n)) (λ v w. stays (here g) vs (after_call kw v) w) (now g vs b)) (then_ (forms.acts place (ir.store (accesses.Number s)) (at_temp u ∷ []) None (suc u ∷ []) r) q) (own g ob tm b)
   put_alike s p n e to by is =
       let st : Step = record { action = ir.store (accesses.Number s); places = at_temp u ∷ []; to = None; temps = suc u ∷ []; slots = [] } in
       none_alike tree.atomic_store (values.Pointer p ∷ values.Num n ∷ []) r tm st refl (actions.store p (values.Num n))
@@ -311,11 +311,11 @@ module _ (g : Setting) (busy : Calls g.t) (vs : List Variable) (ob : ℕ → Opt
       (λ v w k all. lands_none g busy vs ob b tm agrees place ty u kw r q waits v k tm w e (below_same u tm) all)
 
   compare_alike : (s : IntType) (p o : Ptr) (n : Num) → ty ≡ tree.integer int → tm u ≡ value (values.Pointer p) → tm (suc u) ≡ value (values.Pointer o) → tm (suc (suc u)) ≡ value (values.Num n) → n.ty ≡ s
-      → Alike g (acts (here g) place (actions.compare p o n.ty n.value) (λ v w. stays (here g) vs (after_call kw v) w) (now g vs b))
+      → Alike g (acts (here g) place true (actions.compare p o n.ty n.value) (λ v w. stays (here g) vs (after_call kw v) w) (now g vs b))
       (then_ (forms.acts place (ir.compare s) (at_temp u ∷ at_temp (suc u) ∷ []) (Some u) (suc (suc u) ∷ []) r) q) (own g ob tm b)
   compare_alike s p o n e to want by is =
       let st : Step = record { action = ir.compare s; places = at_temp u ∷ at_temp (suc u) ∷ []; to = Some u; temps = suc (suc u) ∷ []; slots = [] } in
-      kind_alike (accesses.Number int) (sym (ap access_of_type e)) st refl (actions.compare p o n.ty n.value)
+      kind_alike true (accesses.Number int) (sym (ap access_of_type e)) st refl (actions.compare p o n.ty n.value)
       (action_is place (own g ob tm b) st (p ∷ o ∷ []) (values.Num n ∷ [])
       (one_more_place place (own g ob tm b) (at_temp u) (at_temp (suc u) ∷ []) p (o ∷ []) (at_register place (own g ob tm b) u p to)
       (one_more_place place (own g ob tm b) (at_temp (suc u)) [] o [] (at_register place (own g ob tm b) (suc u) o want) refl))

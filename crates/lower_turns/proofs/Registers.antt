@@ -78,7 +78,7 @@ module _ (t : tree.Typed) (n : ℕ) (f : tree.Func) (ob : ℕ → Option ℕ) (a
   use_below _ _ _ _ _ _ _ (at_not place lh rch at) g = at_not place lh rch (use_below _ _ _ _ _ _ _ at g)
   use_below _ _ _ _ _ _ _ (at_test place rch at) g = at_test place rch (use_below _ _ _ _ _ _ _ at g)
   use_below _ _ _ _ _ _ _ (at_member place offset rch small at) g = at_member place offset rch small (use_below _ _ _ _ _ _ _ at g)
-  use_below _ _ _ _ _ _ _ (at_read place how rch at) g = at_read place how rch (use_below _ _ _ _ _ _ _ at g)
+  use_below _ _ _ _ _ _ _ (at_read place how atomic rch at) g = at_read place how atomic rch (use_below _ _ _ _ _ _ _ at g)
   use_below _ _ _ _ _ _ _ (at_and place right lh rch ty sc at) g = at_and place right lh rch ty sc (use_below _ _ _ _ _ _ _ at g)
   use_below _ _ _ _ _ _ _ (at_or place right lh rch ty sc at) g = at_or place right lh rch ty sc (use_below _ _ _ _ _ _ _ at g)
   use_below _ _ _ _ _ _ _ (at_second_test place lh rch at) g = at_second_test place lh rch (use_below _ _ _ _ _ _ _ at g)
@@ -89,9 +89,9 @@ module _ (t : tree.Typed) (n : ℕ) (f : tree.Func) (ob : ℕ → Option ℕ) (a
   use_below _ _ _ _ _ _ _ (at_dropped {u = u} place callee all e rest before v ty rch typed sc call scs taken above at) g =
       at_dropped place callee all e rest before v ty rch typed sc call scs (taken_below a b all u _ _ _ taken g) above at
   use_below _ _ _ _ _ _ _ (at_local place i l rch e h at) g = at_local place i l rch e h at
-  use_below _ _ _ _ _ _ _ (at_left place right how rch ty sc e at) g = at_left place right how rch ty sc e at
-  use_below _ _ _ _ _ _ _ (at_place place to how via rch h at) g = at_place place to how via rch (reaches_below a b via _ to h g) at
-  use_below _ _ _ _ _ _ _ (at_block place i object c how rch h lt e at) g = at_block place i object c how rch h lt e at
+  use_below _ _ _ _ _ _ _ (at_left place atomic right how rch ty sc e at) g = at_left place atomic right how rch ty sc e at
+  use_below _ _ _ _ _ _ _ (at_place place atomic to how via rch h at) g = at_place place atomic to how via rch (reaches_below a b via _ to h g) at
+  use_below _ _ _ _ _ _ _ (at_block place atomic i object c how rch h lt e at) g = at_block place atomic i object c how rch h lt e at
   use_below _ _ _ _ _ _ _ (at_struct_left place ty right rch typed h small at) g = at_struct_left place ty right rch typed h small at
   use_below _ _ _ _ _ _ _ (at_struct_right place ty to via rch h small at) g = at_struct_right place ty to via rch (reaches_below a b via _ to h g) small at
   use_below _ _ _ _ _ _ _ (at_update_left place x right op rch ty sc can at) g = at_update_left place x right op rch ty sc can at

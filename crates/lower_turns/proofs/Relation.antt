@@ -1,5 +1,5 @@
 -- When a thread of the code stands where a thread of the source does.
-use Rattle.std.proofs.Common.{◌≡◌, ℕ, suc, ◌<◌, ◌≤◌, ◌^◌, ◌*ℤ◌, ℤ, pos, true, false, List, [], ◌∷◌, ◌++◌, length, ◌==◌, ◌⊎◌, Option, Some, None, Ok}
+use Rattle.std.proofs.Common.{◌≡◌, ℕ, suc, ◌<◌, ◌≤◌, ◌^◌, ◌*ℤ◌, ℤ, pos, Bool, true, false, List, [], ◌∷◌, ◌++◌, length, ◌==◌, ◌⊎◌, Option, Some, None, Ok}
 use Rattle.std.specs.Prelude.{slice_get}
 use Rattle.ak_words.specs.declared.int_type.IntType.{IntType}
 use Rattle.ak_words.specs.declared.number.Num.{Num}
@@ -15,6 +15,7 @@ use Rattle.block_store.specs.declared.values.Value.TheVariants as values
 use Rattle.c_tree.specs.Typed as tree
 use Rattle.c_tree.specs.TypedForm.{Jumps, in_function, in_loop, in_switch, IsLabel, stmts_count, IsScalar, IsNth, CanUpdate, CanStart, signature_of, InScope, Inside, IsTyped, AreTyped, IfTyped, AreArguments, IsLibCall, IsWell, AreWell, context_of}
 use Rattle.c_tree.specs.TypedLayout.{size_in}
+use Rattle.race_rules.specs.declared.touch.Touch.{Touch}
 use Rattle.c_meaning.specs.Values.{Binary, converts, negates, tests, selects, on_numbers, forward, backward, distance, on_pointers, access_of_type}
 use Rattle.c_meaning.specs.Control as source
 use Rattle.c_meaning.specs.Control.{Variable, Loop, Callee, function, library, Todo, Use, wanted, dropped, Caller, Control}
@@ -337,8 +338,8 @@ module _ (t : tree.Typed) (n : ℕ) (f : tree.Func) where
     at_member : {a : Around} {k : Use} {u : ℕ} {r : Nodes} {q : Position} (place offset : ℕ) (rch : Reach) → offset < 2 ^ 64
         → AtE ob tm a k u accesses.Pointer (member_reach offset rch) r q
         → AtE ob tm a (source.only_of place (selects offset) k) u accesses.Pointer rch (member_nodes place offset (behind rch u) u r) q
-    at_read : {a : Around} {k : Use} {u : ℕ} {r : Nodes} {q : Position} (place : ℕ) (how : Access) (rch : Reach)
-        → AtE ob tm a k u how found r q → AtE ob tm a (source.place_read place how k) u accesses.Pointer rch (acts place (ir.load how) (reached rch u ∷ []) (Some u) [] r) q
+    at_read : {a : Around} {k : Use} {u : ℕ} {r : Nodes} {q : Position} (place : ℕ) (how : Access) (atomic : Bool) (rch : Reach)
+        → AtE ob tm a k u how found r q → AtE ob tm a (source.place_read place how atomic k) u accesses.Pointer rch (acts place (ir.load how) (reached rch u ∷ []) (Some u) [] r) q
     at_and : {a : Around} {k : Use} {u : ℕ} {r : Nodes} {q : Position} (place : ℕ) (right : tree.Expr) (lh : Access) (rch : Reach) → IsTyped ctx right → IsScalar (tree.type_of right)
         → AtE ob tm a k u (accesses.Number int) found r q
         → AtE ob tm a (source.first_test place false right k) u lh rch
@@ -363,17 +364,17 @@ module _ (t : tree.Typed) (n : ℕ) (f : tree.Func) where
         → AtE ob tm a (source.argument place callee before rest (dropped k)) v (access_of_type (tree.type_of e)) rch (args_nodes (fr a) rest (suc v) (dropped_args place callee all u r)) q
     at_local : {a : Around} {io : Jumps} {k : Todo} {left : List ℕ} {r : Nodes} {q : Position} (place i : ℕ) (l : tree.Local) (rch : Reach) → slice_get f.locals i ≡ Some l → home (fr a) i ≡ None
         → AtS a io k left r q → AtE ob tm a (source.to_local i k) a.first (access_of_type l.ty) rch (sets place i (ir.copy a.first) r) q
-    at_left : {a : Around} {io : Jumps} {k : Todo} {left : List ℕ} {r : Nodes} {q : Position} (place : ℕ) (right : tree.Expr) (how : Access) (rch : Reach)
+    at_left : {a : Around} {io : Jumps} {k : Todo} {left : List ℕ} {r : Nodes} {q : Position} (place : ℕ) (atomic : Bool) (right : tree.Expr) (how : Access) (rch : Reach)
         → IsTyped ctx right → IsScalar (tree.type_of right) → access_of_type (tree.type_of right) ≡ how
         → AtS a io k left r q
-        → AtE ob tm a (source.left_place place right k) a.first accesses.Pointer rch
+        → AtE ob tm a (source.left_place place atomic right k) a.first accesses.Pointer rch
         (expr_nodes (fr a) right (behind rch a.first) (acts place (ir.store how) (reached rch a.first ∷ []) None (behind rch a.first ∷ []) r)) q
-    at_place : {a : Around} {io : Jumps} {k : Todo} {left : List ℕ} {r : Nodes} {q : Position} (place : ℕ) (to : Ptr) (how : Access) (via rch : Reach) → Reaches tm via a.first to
+    at_place : {a : Around} {io : Jumps} {k : Todo} {left : List ℕ} {r : Nodes} {q : Position} (place : ℕ) (atomic : Bool) (to : Ptr) (how : Access) (via rch : Reach) → Reaches tm via a.first to
         → AtS a io k left r q
-        → AtE ob tm a (source.to_place place (values.Pointer to) k) (behind via a.first) how rch (acts place (ir.store how) (reached via a.first ∷ []) None (behind via a.first ∷ []) r) q
-    at_block : {a : Around} {io : Jumps} {k : Todo} {left : List ℕ} {r : Nodes} {q : Position} (place i object b : ℕ) (how : Access) (rch : Reach) → home (fr a) i ≡ Some object → i < a.first → ob object ≡ Some b
+        → AtE ob tm a (source.to_place place atomic (values.Pointer to) k) (behind via a.first) how rch (acts place (ir.store how) (reached via a.first ∷ []) None (behind via a.first ∷ []) r) q
+    at_block : {a : Around} {io : Jumps} {k : Todo} {left : List ℕ} {r : Nodes} {q : Position} (place : ℕ) (atomic : Bool) (i object b : ℕ) (how : Access) (rch : Reach) → home (fr a) i ≡ Some object → i < a.first → ob object ≡ Some b
         → AtS a io k left r q
-        → AtE ob tm a (source.to_place place (values.Pointer (To b 0)) k) a.first how rch (sets place i (ir.object object) (acts place (ir.store how) (at_temp i ∷ []) None (a.first ∷ []) r)) q
+        → AtE ob tm a (source.to_place place atomic (values.Pointer (To b 0)) k) a.first how rch (sets place i (ir.object object) (acts place (ir.store how) (at_temp i ∷ []) None (a.first ∷ []) r)) q
     at_struct_left : {a : Around} {io : Jumps} {k : Todo} {left : List ℕ} {r : Nodes} {q : Position} (place : ℕ) (ty : tree.Ty) (right : tree.Expr) (rch : Reach)
         → IsTyped ctx right → IsPlace (fr a) (tree.node_of right) → size_in t.structs ty < 2 ^ 64
         → AtS a io k left r q
@@ -457,9 +458,9 @@ module _ (t : tree.Typed) where
         → PointIs n f ob tm a (source.round l k) (then_ (body_nodes t n f a l) (position.in_body (body_nodes t n f a l) (latch_nodes t n f a l) (then_ r q)))
 
   pub data Same : Control → Thread Position Own → Type 0 where
-    same : {a : Around} {n : ℕ} {f : tree.Func} {vs : List Variable} {tm : ℕ → Held} {ob : ℕ → Option ℕ} {b : Blocks} {p : source.TurnStart} {q : Position} {cs : List Caller} {cs' : List (Point Position Own)}
+    same : {a : Around} {n : ℕ} {f : tree.Func} {vs : List Variable} {tm : ℕ → Held} {ob : ℕ → Option ℕ} {b : Blocks} {p : source.TurnStart} {q : Position} {cs : List Caller} {cs' : List (Point Position Own)} {touched : List Touch}
         → InCall n f → AgreesIn f a vs tm ob → PointIs n f ob tm a p q → Callers n cs cs'
-        → Same (record { function = n; locals = vs; point = p; callers = cs }) (record { top = record { at = q; own = record { function = n; temps = tm; objects = ob; blocks = b } }; callers = cs' })
+        → Same (record { function = n; locals = vs; point = p; callers = cs; touched = touched }) (record { top = record { at = q; own = record { function = n; temps = tm; objects = ob; blocks = b } }; callers = cs' })
 
   -- a thread may begin with main, and with a function that may be started
   abbrev pub CanBegin : ℕ → Type 0

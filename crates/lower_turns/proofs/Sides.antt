@@ -34,7 +34,7 @@ use Rattle.lower_turns.proofs.Registers.{set_here, below_same, below_less, below
 use Rattle.lower_turns.proofs.Operands.{atomic_updated, plain_updated}
 use Rattle.lower_turns.proofs.Changes.{addend_type, change_fits, addend_alike}
 use Rattle.lower_turns.proofs.Library.{action_is, one_more_place, one_more_read}
-use Rattle.lower_turns.proofs.Steps.{step_alike}
+use Rattle.lower_turns.proofs.Steps.{acts_alike}
 use Rattle.lower_turns.proofs.Setting.{Stands, Setting, here, now, own, Alike, frame, start, agrees_on, GoesE, GoesS, of_kind}
 use Rattle.lower_turns.proofs.Actions.{GivesKind, if_went, load_so, change_so}
 use Rattle.lower_turns.proofs.Uses.{address_reached, above_behind, one_place}
@@ -50,24 +50,24 @@ module _ (g : Setting) (vs : List Variable) (ob : ℕ → Option ℕ) (b : Block
     later_agrees a below = agrees_on g vs tm a ob (start g) (omega arith) agrees below
 
     -- the left side is found, and then the right one is evaluated
-    pub left_goes : (place : ℕ) (right : tree.Expr) (how : Access) (rch : Reach) → IsTyped (ctx g.t g.n g.f) right → IsScalar (tree.type_of right) → access_of_type (tree.type_of right) ≡ how → SimE g right
-        → GoesE g vs ob b tm (left_way (here g) place right w) (start g) accesses.Pointer rch
+    pub left_goes : (place : ℕ) (atomic : Bool) (right : tree.Expr) (how : Access) (rch : Reach) → IsTyped (ctx g.t g.n g.f) right → IsScalar (tree.type_of right) → access_of_type (tree.type_of right) ≡ how → SimE g right
+        → GoesE g vs ob b tm (left_way (here g) place atomic right w) (start g) accesses.Pointer rch
         (expr_nodes (frame g) right (behind rch (start g)) (forms.acts place (ir.store how) (reached rch (start g) ∷ []) None (behind rch (start g) ∷ []) r)) q
-    left_goes place right how rch typed scalar is_how sim = record {
-      at = at_left place right how rch typed scalar is_how goes.at;
+    left_goes place atomic right how rch typed scalar is_how sim = record {
+      at = at_left place atomic right how rch typed scalar is_how goes.at;
       above = omega arith;
       agrees = agrees;
       go = go;
     }
       where
         go : (v : Value) (a : ℕ → Held) → HasKind accesses.Pointer v → Below (start g) tm a → a (start g) ≡ value v → Points a rch (start g) v
-            → Alike g ((left_way (here g) place right w).go v (now g vs b)) (then_ (expr_nodes (frame g) right (behind rch (start g)) (forms.acts place (ir.store how) (reached rch (start g) ∷ []) None (behind rch (start g) ∷ []) r)) q) (own g ob a b)
+            → Alike g ((left_way (here g) place atomic right w).go v (now g vs b)) (then_ (expr_nodes (frame g) right (behind rch (start g)) (forms.acts place (ir.store how) (reached rch (start g) ∷ []) None (behind rch (start g) ∷ []) r)) q) (own g ob a b)
         go (values.Num n) a kind below is points = elim kind [ ]
         go (values.Pointer p) a kind below is points =
             let ns : Nodes = forms.acts place (ir.store how) (reached rch (start g) ∷ []) None (behind rch (start g) ∷ []) r in
-            sim vs ob b a (place_way (here g) place (values.Pointer p) w) (behind rch (start g)) ns q
-            (of_kind g vs ob b a (place_way (here g) place (values.Pointer p) w) (behind rch (start g)) how (access_of_type (tree.type_of right)) (pointed (frame g) right) ns q (sym is_how)
-            (place_goes g vs ob b a (later_agrees a below) io w left r q goes place p how rch (pointed (frame g) right) points))
+            sim vs ob b a (place_way (here g) place atomic (values.Pointer p) w) (behind rch (start g)) ns q
+            (of_kind g vs ob b a (place_way (here g) place atomic (values.Pointer p) w) (behind rch (start g)) how (access_of_type (tree.type_of right)) (pointed (frame g) right) ns q (sym is_how)
+            (place_goes g vs ob b a (later_agrees a below) io w left r q goes place atomic p how rch (pointed (frame g) right) points))
 
     pub struct_left_goes : (place : ℕ) (ty : tree.Ty) (right : tree.Expr) (rch : Reach) → IsTyped (ctx g.t g.n g.f) right → IsPlace (frame g) (tree.node_of right) → size_in g.t.structs ty < 2 ^ 64 → SimP g right
         → GoesE g vs ob b tm (struct_left_way (here g) place ty right w) (start g) accesses.Pointer rch
@@ -100,7 +100,7 @@ module _ (g : Setting) (vs : List Variable) (ob : ℕ → Option ℕ) (b : Block
           (λ c under holds.
           let low : Below (start g) a c = below_less (behind via (start g)) (start g) a c (omega (arith, above_behind via (start g))) under in
           let low' : Below (start g) tm a = below_less (behind via (start g)) (start g) tm a (omega (arith, above_behind via (start g))) below in
-          step_alike (lowered g.t) g.thread g.answer g.cs' g.s g.t (λ old next. stays (here g) vs (source.begins w.k) next) (tree.place_of x) st r q (own g ob c b) (actions.change to m.ty Add m.value)
+          acts_alike (lowered g.t) g.thread g.answer g.cs' g.s g.t (λ old next. stays (here g) vs (source.begins w.k) next) _ (tree.place_of x) st r q (own g ob c b) (actions.change to m.ty Add m.value)
           (action_is (tree.place_of x) (own g ob c b) st (to ∷ []) (values.Num m ∷ [])
           (one_more_place (tree.place_of x) (own g ob c b) (reached via (start g)) [] to [] (address_reached (tree.place_of x) (own g ob c b) via (start g) to (reaches_below a c via (start g) to leads under)) refl)
           (one_more_read (tree.place_of x) (own g ob c b) (behind via (start g)) [] (values.Num m) [] holds refl)
@@ -163,7 +163,7 @@ module _ (g : Setting) (vs : List Variable) (ob : ℕ → Option ℕ) (b : Block
               (then_ (change_nodes (tree.place_of x) (is_minus op) s (reached via (start g)) (behind via (start g)) None r) q) (own g ob a b)) (sym (ap number_type z.1))
               (by_value to via z.0 v a (subst (λ (y : tree.Ty). HasKind (access_of_type y) v) z.2 kind) below is here_leads)
           by_type v a kind below is here_leads false e =
-              step_alike (lowered g.t) g.thread g.answer g.cs' g.s g.t _ (tree.place_of x)
+              acts_alike (lowered g.t) g.thread g.answer g.cs' g.s g.t _ _ (tree.place_of x)
               (record { action = ir.load (access_of_type (tree.type_of x)); places = reached via (start g) ∷ []; to = Some (suc (behind via (start g))); temps = []; slots = [] })
               (computes g.t.structs place op (tree.type_of x) (tree.type_of right) (suc (behind via (start g))) (behind via (start g)) (behind via (start g))
               (forms.acts (tree.place_of x) (ir.store (access_of_type (tree.type_of x))) (reached via (start g) ∷ []) None (behind via (start g) ∷ []) r)) q (own g ob a b) (actions.load to (access_of_type (tree.type_of x)))

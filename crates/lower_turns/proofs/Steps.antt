@@ -9,8 +9,9 @@ use Rattle.block_store.specs.Actions.{World, Done, acted}
 use Rattle.block_store.specs.Runs as runs
 use Rattle.block_store.specs.Runs.{Turn}
 use Rattle.c_tree.specs.Typed as tree
+use Rattle.race_rules.specs.declared.touch.Touch.{Touch}
 use Rattle.c_meaning.specs.Control.{Control}
-use Rattle.c_meaning.specs.Turns.{on_ok, on_done}
+use Rattle.c_meaning.specs.Turns.{on_ok, on_done, having_touched}
 use Rattle.c_meaning.specs.Values.{truth_of}
 use Rattle.struct_ir.specs.Nodes as ir
 use Rattle.struct_ir.specs.Nodes.{Calc, Nodes, no_nodes, more_nodes, plain, Ir, Step}
@@ -24,7 +25,7 @@ use Rattle.struct_ir.proofs.Sizes.{structured_shrinks}
 use Rattle.struct_ir.specs.meaning.Blocks.{Held, value, Fault, broken, Own, set_at, with_temps, known, on_value, or_broken, calculated, assigned, begun, object_ended, way_of, blocks_machine}
 use Rattle.struct_ir.specs.meaning.Threads.{action_of, set_if, served_by, blocks_world, start_in, turned, served_if}
 use Rattle.lower_forms.specs.Forms.{sets, branches}
-use Rattle.lower_turns.proofs.Relation.{Together, both_blocked, both_unfit, both_broke}
+use Rattle.lower_turns.proofs.Relation.{Together, both_went, both_ended, both_blocked, both_unfit, both_broke, same}
 
 module _ (p : Ir) (thread : ℕ) (answer : Answer) (callers : List (Point Position Own)) (s : World) where
   -- what comes of a turn that goes on so
@@ -172,10 +173,25 @@ module _ (p : Ir) (thread : ℕ) (answer : Answer) (callers : List (Point Positi
     done_alike go place at to (actions.broke rule) h = both_broke rule place
 
     -- a step that both do
-    pub step_alike : (go : Option Value → World → Turn Control) (place : ℕ) (st : Step) (r : Nodes) (q : Position) (l : Own) (a : actions.SharedAction) → action_of place l st ≡ Ok a
+    step_alike : (go : Option Value → World → Turn Control) (place : ℕ) (st : Step) (r : Nodes) (q : Position) (l : Own) (a : actions.SharedAction) → action_of place l st ≡ Ok a
         → ((v : Option Value) (w : World) → acted (kept l) thread answer a ≡ actions.went v w
         → Together t (go v w) (runs.went (record { top = record { at = then_ r q; own = with_temps l (set_if l.temps st.to v) }; callers = callers }) w))
         → Together t (on_done place go (acted (kept l) thread answer a)) (onward (then_ (more_nodes (plain place (ir.step st)) r) q) l)
     step_alike go place st r q l a e h =
         subst (Together t (on_done place go (acted (kept l) thread answer a))) (sym (does_step place st r q l a e))
         (done_alike go place (record { at = then_ (more_nodes (plain place (ir.step st)) r) q; own = l }) st.to (acted (kept l) thread answer a) h)
+
+    -- what a turn touched is no matter
+    touching : (ts : List Touch) (x : Turn Control) (y : Turn (Thread Position Own)) → Together t x y → Together t (having_touched ts x) y
+    touching ts _ _ (both_went w all (same call agrees point callers')) = both_went w all (same call agrees point callers')
+    touching ts _ _ (both_ended w all) = both_ended w all
+    touching ts _ _ both_blocked = both_blocked
+    touching ts _ _ both_unfit = both_unfit
+    touching ts _ _ (both_broke rule place) = both_broke rule place
+
+    -- an action that both do
+    pub acts_alike : (go : Option Value → World → Turn Control) (ts : List Touch) (place : ℕ) (st : Step) (r : Nodes) (q : Position) (l : Own) (a : actions.SharedAction) → action_of place l st ≡ Ok a
+        → ((v : Option Value) (w : World) → acted (kept l) thread answer a ≡ actions.went v w
+        → Together t (go v w) (runs.went (record { top = record { at = then_ r q; own = with_temps l (set_if l.temps st.to v) }; callers = callers }) w))
+        → Together t (on_done place (λ v w. having_touched ts (go v w)) (acted (kept l) thread answer a)) (onward (then_ (more_nodes (plain place (ir.step st)) r) q) l)
+    acts_alike go ts place st r q l a e h = step_alike (λ v w. having_touched ts (go v w)) place st r q l a e (λ v w is. touching ts (go v w) _ (h v w is))

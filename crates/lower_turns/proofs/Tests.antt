@@ -14,7 +14,7 @@ use Rattle.block_store.specs.Runs as runs
 use Rattle.block_store.specs.Runs.{Turn}
 use Rattle.c_tree.specs.Typed as tree
 use Rattle.c_tree.specs.TypedForm.{IsScalar, IsTyped}
-use Rattle.c_meaning.specs.Values.{Binary, int_of, access_of_type}
+use Rattle.c_meaning.specs.Values.{Binary, int_of, access_of_type, is_atomic}
 use Rattle.c_meaning.specs.Control as source
 use Rattle.c_meaning.specs.Control.{Variable, Control}
 use Rattle.c_meaning.specs.Turns.{WayOfUse, run, run_place, first_way, second_way, first_test_way, second_test_way, choice_way, read_way, reads_variable, finds_variable, is_same}
@@ -166,8 +166,8 @@ module _ (g : Setting) (vs : List Variable) (ob : ℕ → Option ℕ) (b : Block
     block_value busy place k ty goes _ _ (one_block c) e =
         let a : ℕ → Held = set_at (set_at tm u (pointer (To c 0))) u (pointer (To c 0)) in
         let is : a u ≡ pointer (To c 0) = set_here (set_at tm u (pointer (To c 0))) u (pointer (To c 0)) in
-        object_then tm u (forms.loads place ty found u r) q ((read_way (here g) place (access_of_type ty) w).go (values.Pointer (To c 0)) (now g vs b)) place k c e
-        ((read_goes g vs ob b tm w u r q busy (access_of_type ty) goes place found).go (values.Pointer (To c 0)) a tt (twice c) is is)
+        object_then tm u (forms.loads place ty found u r) q ((read_way (here g) place (access_of_type ty) (is_atomic ty) w).go (values.Pointer (To c 0)) (now g vs b)) place k c e
+        ((read_goes g vs ob b tm w u r q busy (access_of_type ty) goes place (is_atomic ty) found).go (values.Pointer (To c 0)) a tt (twice c) is is)
 
     -- the value of a local
     pub local_alike : (busy : Calls g.t) (place i : ℕ) (ty : tree.Ty) (l : tree.Local) → slice_get g.f.locals i ≡ Some l → l.ty ≡ ty → (hm : Option ℕ) → home (frame g) i ≡ hm

@@ -113,7 +113,7 @@ module _ (g : Setting) where
     goes_e _ low agrees _ _ _ _ _ _ (at_test {a} {k} {u} {r} {q} place rch at) = test_goes (at_around g a low) vs ob b tm (use_of (here g) k) u r q (goes_e a low agrees k u (accesses.Number int) found r q at) place rch
     goes_e _ low agrees _ _ _ _ _ _ (at_member {a} {k} {u} {r} {q} place offset rch small at) =
         member_goes (at_around g a low) vs ob b tm (use_of (here g) k) u r q place offset rch small (goes_e a low agrees k u accesses.Pointer (member_reach offset rch) r q at)
-    goes_e _ low agrees _ _ _ _ _ _ (at_read {a} {k} {u} {r} {q} place how rch at) = read_goes (at_around g a low) vs ob b tm (use_of (here g) k) u r q busy how (goes_e a low agrees k u how found r q at) place rch
+    goes_e _ low agrees _ _ _ _ _ _ (at_read {a} {k} {u} {r} {q} place how atomic rch at) = read_goes (at_around g a low) vs ob b tm (use_of (here g) k) u r q busy how (goes_e a low agrees k u how found r q at) place atomic rch
     goes_e _ low agrees _ _ _ _ _ _ (at_and {a} {k} {u} {r} {q} place right lh rch ty sc at) =
         and_goes (at_around g a low) vs ob b tm (use_of (here g) k) u r q (goes_e a low agrees k u (accesses.Number int) found r q at) place right lh rch ty sc (expr_sim (at_around g a low) busy right ty sc)
     goes_e _ low agrees _ _ _ _ _ _ (at_or {a} {k} {u} {r} {q} place right lh rch ty sc at) =
@@ -127,12 +127,12 @@ module _ (g : Setting) where
         argument_goes (at_around g a low) busy e rest typed (args_sim (at_around g a low) busy rest typed) vs ob b tm place callee all before (dropped k) u v ty rch r q sc call scs (wait_dropped above at) taken agrees
     goes_e _ low agrees _ _ _ _ _ _ (at_local {a} {io} {k} {left} {r} {q} place i l rch there none at) =
         local_goes (at_around g a low) vs ob b tm agrees io (way_of (here g) k) left r q (goes_s a low io k left r q at) place i l rch there none
-    goes_e _ low agrees _ _ _ _ _ _ (at_left {a} {io} {k} {left} {r} {q} place right how rch ty sc e at) =
-        left_goes (at_around g a low) vs ob b io (way_of (here g) k) left r q (goes_s a low io k left r q at) tm agrees place right how rch ty sc e (expr_sim (at_around g a low) busy right ty sc)
-    goes_e _ low agrees _ _ _ _ _ _ (at_place {a} {io} {k} {left} {r} {q} place to how via rch leads at) =
-        place_goes (at_around g a low) vs ob b tm agrees io (way_of (here g) k) left r q (goes_s a low io k left r q at) place to how via rch leads
-    goes_e _ low agrees _ _ _ _ _ _ (at_block {a} {io} {k} {left} {r} {q} place i object c how rch has lt there at) =
-        block_goes (at_around g a low) vs ob b tm agrees io (way_of (here g) k) left r q (goes_s a low io k left r q at) place i object c how rch has lt there
+    goes_e _ low agrees _ _ _ _ _ _ (at_left {a} {io} {k} {left} {r} {q} place atomic right how rch ty sc e at) =
+        left_goes (at_around g a low) vs ob b io (way_of (here g) k) left r q (goes_s a low io k left r q at) tm agrees place atomic right how rch ty sc e (expr_sim (at_around g a low) busy right ty sc)
+    goes_e _ low agrees _ _ _ _ _ _ (at_place {a} {io} {k} {left} {r} {q} place atomic to how via rch leads at) =
+        place_goes (at_around g a low) vs ob b tm agrees io (way_of (here g) k) left r q (goes_s a low io k left r q at) place atomic to how via rch leads
+    goes_e _ low agrees _ _ _ _ _ _ (at_block {a} {io} {k} {left} {r} {q} place atomic i object c how rch has lt there at) =
+        block_goes (at_around g a low) vs ob b tm agrees io (way_of (here g) k) left r q (goes_s a low io k left r q at) place atomic i object c how rch has lt there
     goes_e _ low agrees _ _ _ _ _ _ (at_struct_left {a} {io} {k} {left} {r} {q} place ty right rch typed p small at) =
         struct_left_goes (at_around g a low) vs ob b io (way_of (here g) k) left r q (goes_s a low io k left r q at) tm agrees place ty right rch typed p small (place_sim (at_around g a low) busy right typed p)
     goes_e _ low agrees _ _ _ _ _ _ (at_struct_right {a} {io} {k} {left} {r} {q} place ty to via rch leads small at) =

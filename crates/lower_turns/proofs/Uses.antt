@@ -33,7 +33,7 @@ use Rattle.lower_forms.specs.Programs.{lowered}
 use Rattle.lower_turns.proofs.Relation.{HasKind, Below, Reaches, Points, BinaryFits, forwards, forwards_from, calc_of, Joined, not_joined, joined, ConvertFits, to_number, from_atomic, to_pointer, Calls, at_second, at_convert, at_not, at_test, at_member, at_read, at_second_test, Together, both_went, same, at_gives}
 use Rattle.lower_turns.proofs.Registers.{set_here, set_there, below_less, below_set}
 use Rattle.lower_turns.proofs.Values.{binary_is, binary_kind, int_kind, moved_further, member_moved, unmoved, not_moved, times_one, long_is}
-use Rattle.lower_turns.proofs.Steps.{no_more, then_same, set_then, set_result, branch, step_alike}
+use Rattle.lower_turns.proofs.Steps.{no_more, then_same, set_then, set_result, branch, acts_alike}
 use Rattle.lower_turns.proofs.Setting.{Setting, here, now, own, Alike, GoesE, points_found, later}
 use Rattle.lower_turns.proofs.Actions.{GivesKind, if_went, load_so}
 
@@ -285,10 +285,10 @@ module _ (g : Setting) (vs : List Variable) (ob : ℕ → Option ℕ) (b : Block
 
     -- an object is read
     module _ (busy : Calls g.t) where
-      pub read_goes : (how : Access) → GoesE g vs ob b tm w u how found r q → (place : ℕ) (rch : Reach)
-          → GoesE g vs ob b tm (read_way (here g) place how w) u accesses.Pointer rch (forms.acts place (ir.load how) (reached rch u ∷ []) (Some u) [] r) q
-      read_goes how goes place rch = record {
-        at = at_read place how rch goes.at;
+      pub read_goes : (how : Access) → GoesE g vs ob b tm w u how found r q → (place : ℕ) (atomic : Bool) (rch : Reach)
+          → GoesE g vs ob b tm (read_way (here g) place how atomic w) u accesses.Pointer rch (forms.acts place (ir.load how) (reached rch u ∷ []) (Some u) [] r) q
+      read_goes how goes place atomic rch = record {
+        at = at_read place how atomic rch goes.at;
         above = goes.above;
         agrees = goes.agrees;
         go = go;
@@ -305,8 +305,8 @@ module _ (g : Setting) (vs : List Variable) (ob : ℕ → Option ℕ) (b : Block
               both_went next h.1 (same g.call goes'.agrees (at_gives v h.0 (set_here a u (value v)) goes.above busy goes'.at) g.callers)
 
           go : (v : Value) (a : ℕ → Held) → HasKind accesses.Pointer v → Below u tm a → a u ≡ value v → Points a rch u v
-              → Alike g ((read_way (here g) place how w).go v (now g vs b)) (then_ (forms.acts place (ir.load how) (reached rch u ∷ []) (Some u) [] r) q) (own g ob a b)
+              → Alike g ((read_way (here g) place how atomic w).go v (now g vs b)) (then_ (forms.acts place (ir.load how) (reached rch u ∷ []) (Some u) [] r) q) (own g ob a b)
           go (values.Num n) a kind below is points = elim kind [ ]
           go (values.Pointer p) a kind below is points =
-              step_alike program_code g.thread g.answer g.cs' g.s g.t _ place (record { action = ir.load how; places = reached rch u ∷ []; to = Some u; temps = []; slots = [] }) r q (own g ob a b) (actions.load p how)
+              acts_alike program_code g.thread g.answer g.cs' g.s g.t _ _ place (record { action = ir.load how; places = reached rch u ∷ []; to = Some u; temps = []; slots = [] }) r q (own g ob a b) (actions.load p how)
               (one_place place (own g ob a b) (ir.load how) (reached rch u) (Some u) p (address_reached place (own g ob a b) rch u p points)) (went_on a below p)

@@ -10,7 +10,7 @@ use Rattle.c_tree.specs.Typed as tree
 use Rattle.c_meaning.specs.Control as control
 use Rattle.c_meaning.specs.Values.{is_scalar, is_atomic, is_minus}
 use Rattle.c_meaning.specs.Library.{changed_by}
-use Rattle.c_meaning.specs.Turns.{TurnContext, Way, WayOfUse, Does, run, run_place, run_dropped, run_dropped_node, nowhere_way, place_way, struct_right_way, struct_left_way, left_way, local_way, pointer_in, update_reads, update_changes, update_right_way, update_left_way, update_local_way, updates_variable, variable_at, assigns_object, initialises, drops_object, is_struct, is_block, ended_local, made_local, declared_local}
+use Rattle.c_meaning.specs.Turns.{TurnContext, Way, WayOfUse, Does, run, run_place, run_dropped, run_dropped_node, nowhere_way, place_way, struct_right_way, struct_left_way, left_way, local_way, pointer_in, update_reads, update_changes, update_right_way, update_left_way, update_local_way, updates_variable, variable_at, assigns_object, initialises, drops_object, is_struct, is_block, is_atomic_local, ended_local, made_local, declared_local}
 use Rattle.source_tree.specs.declared.tree.SharedProgram.{SharedProgram}
 use Rattle.source_state.specs.declared.control.Progress.{Progress}
 use Rattle.source_state.specs.declared.control.Progress.TheVariants as flows
@@ -59,12 +59,12 @@ finds_exit p function locals blocks b e f after g v way k new_locals new_blocks 
 
 -- ---- assignments
 
-pub stored_exit : (p : SharedProgram) (function : ℕ) (locals : List control.Variable) (blocks b : Blocks) (e f : tree.Expr) (after : control.Use) (g : Progress) (v : Value) (place : ℕ) (to : Value) (k : control.Todo) (q : Pending)
-    → Flows p locals b f after g → b ≡ blocks → f ≡ e → g ≡ flows.Gives v → after ≡ control.to_place place to k → Stores place to v k q
-    → ExitsAs (λ h w. run h e (place_way h place to w)) p function k locals blocks locals blocks (exits.Ends q)
-stored_exit p function locals blocks b e f after g v place to k q flow same_blocks same_expr is_v named stores =
-    gives_exit p function locals blocks b e f after g v (λ h w. place_way h place to w) k locals blocks (exits.Ends q) flow same_blocks same_expr is_v
-    (λ h w n. ap (control.to_place place to) n ∙ sym named)
+pub stored_exit : (p : SharedProgram) (function : ℕ) (locals : List control.Variable) (blocks b : Blocks) (e f : tree.Expr) (after : control.Use) (g : Progress) (v : Value) (place : ℕ) (atomic : Bool) (to : Value) (k : control.Todo) (q : Pending)
+    → Flows p locals b f after g → b ≡ blocks → f ≡ e → g ≡ flows.Gives v → after ≡ control.to_place place atomic to k → Stores place atomic to v k q
+    → ExitsAs (λ h w. run h e (place_way h place atomic to w)) p function k locals blocks locals blocks (exits.Ends q)
+stored_exit p function locals blocks b e f after g v place atomic to k q flow same_blocks same_expr is_v named stores =
+    gives_exit p function locals blocks b e f after g v (λ h w. place_way h place atomic to w) k locals blocks (exits.Ends q) flow same_blocks same_expr is_v
+    (λ h w n. ap (control.to_place place atomic to) n ∙ sym named)
     (λ r w x n. stores.goes (here_at p function r) w (now_in locals blocks x) n)
 
 pub copied_exit : (p : SharedProgram) (function : ℕ) (locals : List control.Variable) (blocks b : Blocks) (e f : tree.Expr) (after : control.Use) (g : Progress) (v : Value) (place : ℕ) (ty t : tree.Ty) (to : Value) (k : control.Todo) (q : Pending)
@@ -85,13 +85,13 @@ whole_exit p function locals blocks b e right after g to place ty k left flow sa
     (λ h w n. ap (control.struct_left place ty right) n ∙ sym named)
     (λ r w x n. assigned.goes r w x n)
 
-pub scalar_exit : (p : SharedProgram) (function : ℕ) (locals : List control.Variable) (blocks b : Blocks) (e right : tree.Expr) (after : control.Use) (g : Progress) (to : Value) (place : ℕ) (k : control.Todo) (left : Exit)
-    → FlowsPlace p locals b e after g → b ≡ blocks → g ≡ flows.Gives to → after ≡ control.left_place place right k
-    → ExitsAs (λ h w. run h right (place_way h place to w)) p function k locals blocks locals blocks left
-    → ExitsAs (λ h w. run_place h e (left_way h place right w)) p function k locals blocks locals blocks left
-scalar_exit p function locals blocks b e right after g to place k left flow same_blocks is_to named assigned =
-    finds_exit p function locals blocks b e e after g to (λ h w. left_way h place right w) k locals blocks left flow same_blocks refl is_to
-    (λ h w n. ap (control.left_place place right) n ∙ sym named)
+pub scalar_exit : (p : SharedProgram) (function : ℕ) (locals : List control.Variable) (blocks b : Blocks) (e right : tree.Expr) (after : control.Use) (g : Progress) (to : Value) (place : ℕ) (atomic : Bool) (k : control.Todo) (left : Exit)
+    → FlowsPlace p locals b e after g → b ≡ blocks → g ≡ flows.Gives to → after ≡ control.left_place place atomic right k
+    → ExitsAs (λ h w. run h right (place_way h place atomic to w)) p function k locals blocks locals blocks left
+    → ExitsAs (λ h w. run_place h e (left_way h place atomic right w)) p function k locals blocks locals blocks left
+scalar_exit p function locals blocks b e right after g to place atomic k left flow same_blocks is_to named assigned =
+    finds_exit p function locals blocks b e e after g to (λ h w. left_way h place atomic right w) k locals blocks left flow same_blocks refl is_to
+    (λ h w n. ap (control.left_place place atomic right) n ∙ sym named)
     (λ r w x n. assigned.goes r w x n)
 
 pub struct_object : (p : SharedProgram) (function : ℕ) (locals : List control.Variable) (blocks : Blocks) (e right : tree.Expr) (k : control.Todo) (left : Exit)
@@ -100,17 +100,17 @@ pub struct_object : (p : SharedProgram) (function : ℕ) (locals : List control.
     → ExitsAs (λ h w. assigns_object h e right w) p function k locals blocks locals blocks left
 struct_object p function locals blocks e right k left i a = record {
   goes = λ r w x n.
-      ap (λ (d : Does). d (now_in locals blocks x)) (when_true (is_struct (tree.type_of e)) (run_place (here_at p function r) e (struct_left_way (here_at p function r) (tree.place_of e) (tree.type_of e) right w)) (run_place (here_at p function r) e (left_way (here_at p function r) (tree.place_of e) right w)) i)
+      ap (λ (d : Does). d (now_in locals blocks x)) (when_true (is_struct (tree.type_of e)) (run_place (here_at p function r) e (struct_left_way (here_at p function r) (tree.place_of e) (tree.type_of e) right w)) (run_place (here_at p function r) e (left_way (here_at p function r) (tree.place_of e) (is_atomic (tree.type_of e)) right w)) i)
       ∙ a.goes r w x n;
 }
 
 pub other_object : (p : SharedProgram) (function : ℕ) (locals : List control.Variable) (blocks : Blocks) (e right : tree.Expr) (k : control.Todo) (left : Exit)
     → is_struct (tree.type_of e) ≡ false
-    → ExitsAs (λ h w. run_place h e (left_way h (tree.place_of e) right w)) p function k locals blocks locals blocks left
+    → ExitsAs (λ h w. run_place h e (left_way h (tree.place_of e) (is_atomic (tree.type_of e)) right w)) p function k locals blocks locals blocks left
     → ExitsAs (λ h w. assigns_object h e right w) p function k locals blocks locals blocks left
 other_object p function locals blocks e right k left i a = record {
   goes = λ r w x n.
-      ap (λ (d : Does). d (now_in locals blocks x)) (when_false (is_struct (tree.type_of e)) (run_place (here_at p function r) e (struct_left_way (here_at p function r) (tree.place_of e) (tree.type_of e) right w)) (run_place (here_at p function r) e (left_way (here_at p function r) (tree.place_of e) right w)) i)
+      ap (λ (d : Does). d (now_in locals blocks x)) (when_false (is_struct (tree.type_of e)) (run_place (here_at p function r) e (struct_left_way (here_at p function r) (tree.place_of e) (tree.type_of e) right w)) (run_place (here_at p function r) e (left_way (here_at p function r) (tree.place_of e) (is_atomic (tree.type_of e)) right w)) i)
       ∙ a.goes r w x n;
 }
 
@@ -160,13 +160,13 @@ pub initialised_block : (p : SharedProgram) (function place number block : ℕ) 
     → is_block (local_in p function number) ≡ true
     → Names block (ended_local number) locals blocks
     → ((r : Rest) → Comes (made_local (here_at p function r) number) locals blocks new_locals new_blocks)
-    → ExitsAs (λ h w. run h e (place_way h place (values.Pointer (To block 0)) w)) p function k new_locals new_blocks new_locals new_blocks left
+    → ExitsAs (λ h w. run h e (place_way h place (is_atomic_local (local_in p function number)) (values.Pointer (To block 0)) w)) p function k new_locals new_blocks new_locals new_blocks left
     → ExitsAs (λ h w. initialises h place number e w) p function k locals blocks new_locals new_blocks left
 initialised_block p function place number block e k locals blocks new_locals new_blocks left i name made a = record {
   goes = λ r w x n.
       when_true (is_block (local_in p function number)) _ _ i
-      ∙ ap (λ (m : ℕ). run (here_at p function r) e (place_way (here_at p function r) place (values.Pointer (To m 0)) w) (made_local (here_at p function r) number (now_in locals blocks x))) (sym (name.names x))
-      ∙ ap (run (here_at p function r) e (place_way (here_at p function r) place (values.Pointer (To block 0)) w)) ((made r).goes x)
+      ∙ ap (λ (m : ℕ). run (here_at p function r) e (place_way (here_at p function r) place (is_atomic_local (local_in p function number)) (values.Pointer (To m 0)) w) (made_local (here_at p function r) number (now_in locals blocks x))) (sym (name.names x))
+      ∙ ap (run (here_at p function r) e (place_way (here_at p function r) place (is_atomic_local (local_in p function number)) (values.Pointer (To block 0)) w)) ((made r).goes x)
       ∙ a.goes r w x n;
 }
 

@@ -1,5 +1,5 @@
 -- What ends a turn at an assignment whose operands have their values.
-use Rattle.std.specs.Prelude.{ℕ, ◌≡◌}
+use Rattle.std.specs.Prelude.{ℕ, ◌≡◌, Bool}
 use Rattle.block_store.specs.declared.values.Value.{Value}
 use Rattle.c_tree.specs.Typed as tree
 use Rattle.c_meaning.specs.Control as control
@@ -11,8 +11,8 @@ use Rattle.source_state.specs.declared.control.Pending.{Pending}
 use Rattle.source_expressions.specs.Ends.{Rest, here_at, ends}
 
 -- a value is stored in an object: that ends the turn
-pub record Stores (place : ℕ) (to v : Value) (k : control.Todo) (q : Pending) : Type 0 where
-  pub goes : (h : turns.TurnContext) (w : turns.Way) (x : turns.Now) → w.k ≡ k → (turns.place_way h place to w).go v x ≡ ends h q x
+pub record Stores (place : ℕ) (atomic : Bool) (to v : Value) (k : control.Todo) (q : Pending) : Type 0 where
+  pub goes : (h : turns.TurnContext) (w : turns.Way) (x : turns.Now) → w.k ≡ k → (turns.place_way h place atomic to w).go v x ≡ ends h q x
 
 -- a struct is copied to another: that ends the turn
 pub record Copies (p : SharedProgram) (place : ℕ) (ty : tree.Ty) (to from : Value) (k : control.Todo) (q : Pending) : Type 0 where

@@ -5,6 +5,7 @@ ghost use Rattle.c_tree.specs.Typed.{place_of, type_of, node_of};
 ghost use Rattle.c_tree.specs.TypedViews.{type_view};
 ghost use Rattle.c_meaning.specs.Control as control;
 ghost use Rattle.c_meaning.specs.Turns as turns;
+ghost use Rattle.c_meaning.specs.Values.{is_atomic};
 ghost use Rattle.source_tree.specs.SharedViews.{expr_of};
 ghost use Rattle.source_state.specs.Views.{todo_of, updating_of};
 ghost use Rattle.source_assignments.specs.inner.Numbers.{plain_number};
@@ -14,7 +15,7 @@ ghost use Rattle.source_assignments.specs.Stores.{Stores, Copies, ReadsUpdated, 
 
 use crate::behind_assignments;
 use crate::exit::Exit;
-use crate::locals::{is_block, make_local};
+use crate::locals::{is_atomic_local, is_block, make_local};
 use ak_words::{NoMemory, Op, Rule};
 use block_store::{Change, Ptr, Value};
 use c_meaning::types::{
@@ -22,7 +23,7 @@ use c_meaning::types::{
 };
 use c_tree::typed::CType;
 use source_expressions::expressions::{arguments, expr, place, pointer_in};
-use source_state::control::{Pending, Progress, Then, Todo, Updating, Use, Values, Wait};
+use source_state::control::{Pending, Progress, Site, Then, Todo, Updating, Use, Values, Wait};
 use source_state::{KeptStore, Locals, SharedAction, Variable};
 use source_tree::tree::{OneForm, SharedExpr, SharedNode, SharedProgram};
 use source_values::{addend, updated};
@@ -54,12 +55,12 @@ fn assign_local(
 }
 
 /// A value is stored at a place: that ends the turn.
-pub fn store_value(place: u32, to: Value, v: Value, k: &Rc<Todo>) -> Result<Pending, NoMemory>
-    ensures { IfOk result (λ q. Stores place to v (todo_of k.now.value) q) }
+pub fn store_value(site: Site, to: Value, v: Value, k: &Rc<Todo>) -> Result<Pending, NoMemory>
+    ensures { IfOk result (λ q. Stores site.place site.atomic to v (todo_of k.now.value) q) }
 {
     let then = Then::Begins(k.clone()?);
     let action = SharedAction::Store(pointer_in(to), v);
-    Ok(Pending::Act(place, action, then))
+    Ok(Pending::Act(site, action, then))
 }
 
 /// The value of an expression is stored at a place.
@@ -69,18 +70,18 @@ pub fn assign_place(
     program: &SharedProgram,
     locals: &Locals,
     store: &KeptStore,
-    place: u32,
+    site: Site,
     to: Value,
     k: &Rc<Todo>,
 ) -> Result<Exit, NoMemory>
-    ensures { IfOk result (λ g. (function : ℕ) → ExitsAs (λ h w. turns.run h (expr_of e.now.value) (turns.place_way h place to w)) program.now function (todo_of k.now.value) locals.now.now store.now.now locals.now.now store.now.now g) }
+    ensures { IfOk result (λ g. (function : ℕ) → ExitsAs (λ h w. turns.run h (expr_of e.now.value) (turns.place_way h site.place site.atomic to w)) program.now function (todo_of k.now.value) locals.now.now store.now.now locals.now.now store.now.now g) }
 {
-    let after = behind_assignments::to_place(alloc, place, to, k)?;
+    let after = behind_assignments::to_place(alloc, site, to, k)?;
     let flow = expr(e, alloc, program, locals, store.store(), &after)?;
     match flow {
         Progress::Ends(q) => Ok(Exit::Ends(q)),
         Progress::Gives(v) => {
-            let pending = store_value(place, to, v, k)?;
+            let pending = store_value(site, to, v, k)?;
             Ok(Exit::Ends(pending))
         }
     }
@@ -107,7 +108,7 @@ pub fn copy_struct(
         align,
         true,
     );
-    Ok(Pending::Act(place, action, then))
+    Ok(Pending::Act(Site::plain(place), action, then))
 }
 
 /// A struct is assigned whose left side's place is there.
@@ -169,14 +170,18 @@ fn assign_scalar(
     store: &KeptStore,
     k: &Rc<Todo>,
 ) -> Result<Exit, NoMemory>
-    ensures { IfOk result (λ g. (function : ℕ) → ExitsAs (λ h w. turns.run_place h (expr_of left.now) (turns.left_way h (place_of (expr_of left.now)) (expr_of right.now.value) w)) program.now function (todo_of k.now.value) locals.now.now store.now.now locals.now.now store.now.now g) }
+    ensures { IfOk result (λ g. (function : ℕ) → ExitsAs (λ h w. turns.run_place h (expr_of left.now) (turns.left_way h (place_of (expr_of left.now)) (is_atomic (type_of (expr_of left.now))) (expr_of right.now.value) w)) program.now function (todo_of k.now.value) locals.now.now store.now.now locals.now.now store.now.now g) }
 {
-    let after = behind_assignments::left_place(alloc, left.place, right, k)?;
+    let site = Site {
+        place: left.place,
+        atomic: is_atomic(&left.ty),
+    };
+    let after = behind_assignments::left_place(alloc, site, right, k)?;
     let flow = place(left, alloc, program, locals, store.store(), &after)?;
     match flow {
         Progress::Ends(q) => Ok(Exit::Ends(q)),
         Progress::Gives(to) => assign_place(
-            right, alloc, program, locals, store, left.place, to, k,
+            right, alloc, program, locals, store, site, to, k,
         ),
     }
 }
@@ -279,7 +284,11 @@ fn read_object(
 {
     let after = behind_assignments::update_read(alloc, u, at, by, k)?;
     let action = SharedAction::Load(pointer_in(at), access_of_type(&u.ty));
-    Ok(Pending::Act(u.place, action, Then::Gives(u.place, after)))
+    Ok(Pending::Act(
+        Site::plain(u.place),
+        action,
+        Then::Gives(u.place, after),
+    ))
 }
 
 // a is changed by b.
@@ -291,7 +300,11 @@ fn change_object(u: &Rc<Updating>, at: Value, by: Value, k: &Rc<Todo>) -> Result
             let then = Then::Begins(k.clone()?);
             let added = addend(is_minus(u.op), n);
             let action = SharedAction::Change(pointer_in(at), Change::Add, added);
-            Ok(Pending::Act(u.place, action, then))
+            let site = Site {
+                place: u.place,
+                atomic: true,
+            };
+            Ok(Pending::Act(site, action, then))
         }
         Value::Pointer(_) => Ok(Pending::Unfit),
     }
@@ -451,7 +464,11 @@ pub fn initialise(
     if is_block(program, function, number) {
         let block = make_local(program, function, locals, store, number)?;
         let to = Value::Pointer(Ptr::To { block, offset: 0 });
-        assign_place(e, alloc, program, locals, store, place, to, k)
+        let site = Site {
+            place,
+            atomic: is_atomic_local(program, function, number),
+        };
+        assign_place(e, alloc, program, locals, store, site, to, k)
     } else {
         locals.set(number, Variable::Unset)?;
         assign_local(e, alloc, program, locals, store, number, k)

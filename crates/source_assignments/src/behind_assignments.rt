@@ -9,7 +9,7 @@ ghost use Rattle.source_state.specs.Views.{use_of, todo_of, updating_of};
 use ak_words::NoMemory;
 use block_store::Value;
 use c_tree::typed::CType;
-use source_state::control::{Todo, Updating, Use};
+use source_state::control::{Site, Todo, Updating, Use};
 use source_tree::tree::SharedExpr;
 use std::alloc::Global;
 use std::rc::Rc;
@@ -22,22 +22,22 @@ pub fn to_local(alloc: Global, number: u32, k: &Rc<Todo>) -> Result<Rc<Use>, NoM
 }
 
 /// Behind a value that is stored at a place.
-pub fn to_place(alloc: Global, place: u32, to: Value, k: &Rc<Todo>) -> Result<Rc<Use>, NoMemory>
-    ensures { IfOk result (λ after. use_of after.value ≡ control.to_place place to (todo_of k.now.value)) }
+pub fn to_place(alloc: Global, site: Site, to: Value, k: &Rc<Todo>) -> Result<Rc<Use>, NoMemory>
+    ensures { IfOk result (λ after. use_of after.value ≡ control.to_place site.place site.atomic to (todo_of k.now.value)) }
 {
-    Ok(Rc::new(alloc, Use::ToPlace(place, to, k.clone()?))?)
+    Ok(Rc::new(alloc, Use::ToPlace(site, to, k.clone()?))?)
 }
 
 /// Behind the place of the left side of an assignment.
 pub fn left_place(
     alloc: Global,
-    place: u32,
+    site: Site,
     right: &Rc<SharedExpr>,
     k: &Rc<Todo>,
 ) -> Result<Rc<Use>, NoMemory>
-    ensures { IfOk result (λ after. use_of after.value ≡ control.left_place place (expr_of right.now.value) (todo_of k.now.value)) }
+    ensures { IfOk result (λ after. use_of after.value ≡ control.left_place site.place site.atomic (expr_of right.now.value) (todo_of k.now.value)) }
 {
-    Ok(Rc::new(alloc, Use::LeftPlace(place, right.clone()?, k.clone()?))?)
+    Ok(Rc::new(alloc, Use::LeftPlace(site, right.clone()?, k.clone()?))?)
 }
 
 /// Behind the place of the left side of an assigned struct.

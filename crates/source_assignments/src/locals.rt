@@ -3,14 +3,14 @@
 ghost use Rattle.std.specs.Prelude.{◌≡◌, IfOk, OnOk};
 ghost use Rattle.std.specs.Option.{option_map, option_copied};
 ghost use Rattle.c_tree.specs.TypedViews.{local_view};
-ghost use Rattle.c_meaning.specs.Turns.{is_block, ended_local, made_local, declared_local};
+ghost use Rattle.c_meaning.specs.Turns.{is_block, is_atomic_local, ended_local, made_local, declared_local};
 ghost use Rattle.source_expressions.specs.Ends.{Rest, here_at};
 ghost use Rattle.source_assignments.specs.Locals.{Comes};
 ghost use Rattle.source_assignments.specs.inner.Numbers.{size_in_program, local_in, Names};
 
 use ak_words::NoMemory;
 use block_store::{BlockKind, Cell};
-use c_meaning::types::size_in;
+use c_meaning::types::{is_atomic, size_in};
 use c_tree::typed::Local;
 use source_state::{KeptStore, Locals, Variable};
 use source_tree::tree::SharedProgram;
@@ -31,6 +31,16 @@ pub(crate) fn is_block(program: &SharedProgram, function: u32, number: u32) -> b
 {
     match declared_as(program, function, number) {
         Some(local) => local.in_memory,
+        None => false,
+    }
+}
+
+/// Whether a local is an atomic number.
+pub(crate) fn is_atomic_local(program: &SharedProgram, function: u32, number: u32) -> bool
+    ensures { result ≡ is_atomic_local (local_in program.now function number) }
+{
+    match declared_as(program, function, number) {
+        Some(local) => is_atomic(&local.ty),
         None => false,
     }
 }

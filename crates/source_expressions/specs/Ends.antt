@@ -39,7 +39,7 @@ point_of (thens.Returns callee args k) v = after_library (callee_of callee.value
 -- the end of the turn: a broken rule, an action, the end of a round, a call that is entered or left
 abbrev pub ends : turns.TurnContext → Pending → turns.Does
 ends h (pendings.Broke rule place) x = broke rule place
-ends h (pendings.Act place action next_point) x = turns.acts h place (action_of action) (λ v next. turns.stays h x.locals (point_of next_point v) next) x
+ends h (pendings.Act site action next_point) x = turns.acts h site.place site.atomic (action_of action) (λ v next. turns.stays h x.locals (point_of next_point v) next) x
 ends h (pendings.Round l k) x = turns.round_over h (loop_of l.value) (todo_of k.value) x
 ends h (pendings.Enter number args k) x = turns.calls h 0 (control.function number) (values_of args.value) (wait_of k) x
 ends h (pendings.Leave v) x = turns.leaves_call h v x

@@ -47,8 +47,8 @@ done_with place (Ok v) = flows.Gives v
 done_with place (Err rule) = flows.Ends (pendings.Broke rule place)
 
 -- an object is read: that ends the turn
-pub record Reads (place : ℕ) (how : Access) (at : Value) (k : control.Use) (g : Progress) : Type 0 where
-  pub goes : (h : turns.TurnContext) (w : turns.WayOfUse) (x : turns.Now) → w.k ≡ k → (turns.read_way h place how w).go at x ≡ progress h w x g
+pub record Reads (place : ℕ) (how : Access) (atomic : Bool) (at : Value) (k : control.Use) (g : Progress) : Type 0 where
+  pub goes : (h : turns.TurnContext) (w : turns.WayOfUse) (x : turns.Now) → w.k ≡ k → (turns.read_way h place how atomic w).go at x ≡ progress h w x g
 
 -- an expression gets so far as the right operand of an operation
 pub record FlowsSecond (p : SharedProgram) (locals : List control.Variable) (blocks : Blocks) (place : ℕ) (op : values.Binary) (left : Value) (e : tree.Expr) (k : control.Use) (g : Progress) : Type 0 where

@@ -5,6 +5,7 @@ ghost use Rattle.std.specs.Option.{option_map};
 ghost use Rattle.c_tree.specs.Typed as tree;
 ghost use Rattle.c_tree.specs.TypedViews.{lib_view};
 ghost use Rattle.c_meaning.specs.Library as library;
+ghost use Rattle.c_meaning.specs.Library.{names_atomic};
 ghost use Rattle.source_state.specs.Worlds.{action_of};
 ghost use Rattle.source_state.specs.Views.{callee_of, values_of, wait_of};
 ghost use Rattle.source_expressions.specs.Ends.{Calls};
@@ -14,7 +15,7 @@ use ak_words::{IntType, NoMemory, Num};
 use block_store::{Cell, Change, Ptr, Value};
 use c_tree::typed::Lib;
 use source_state::SharedAction;
-use source_state::control::{Pending, Then, Values, Wait};
+use source_state::control::{Pending, Site, Then, Values, Wait};
 use source_state::frames::same_wait;
 use source_tree::tree::Callee;
 use source_values::addend;
@@ -283,6 +284,16 @@ fn action(alloc: Global, lib: &Lib, args: &[Value]) -> Result<Option<SharedActio
     }
 }
 
+// Whether a call names an object that is atomic.
+fn names_atomic(lib: &Lib) -> bool
+    ensures { result ≡ names_atomic (lib_view lib.now) }
+{
+    matches!(
+        lib,
+        Lib::AtomicAdd | Lib::AtomicSub | Lib::AtomicSwap | Lib::AtomicCompare | Lib::AtomicStore
+    )
+}
+
 /// A call whose arguments are there: a function is entered, or the library's action is done.
 pub fn called(
     alloc: Global,
@@ -301,7 +312,11 @@ pub fn called(
                 None => Ok(Pending::Unfit),
                 Some(action) => {
                     let then = Then::Returns(callee.clone()?, before.clone()?, same_wait(wait)?);
-                    Ok(Pending::Act(place, action, then))
+                    let site = Site {
+                        place,
+                        atomic: names_atomic(lib),
+                    };
+                    Ok(Pending::Act(site, action, then))
                 }
             }
         }

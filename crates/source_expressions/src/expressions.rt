@@ -6,7 +6,7 @@ ghost use Rattle.c_tree.specs.TypedViews.{type_view, layout_view};
 ghost use Rattle.c_meaning.specs.Control as control;
 ghost use Rattle.c_meaning.specs.Turns.{pointer_in};
 ghost use Rattle.c_meaning.specs.Values as values;
-ghost use Rattle.c_meaning.specs.Values.{truth_of, int_result};
+ghost use Rattle.c_meaning.specs.Values.{truth_of, int_result, is_atomic};
 ghost use Rattle.source_tree.specs.declared.tree.SharedProgram.{SharedProgram};
 ghost use Rattle.source_tree.specs.SharedViews.{expr_of, args_of};
 ghost use Rattle.source_state.specs.Operations.{unary_of, binary_of};
@@ -21,9 +21,9 @@ use crate::called;
 use crate::operations::{of_one, of_two};
 use ak_words::{NoMemory, Num, Rule};
 use block_store::{Access, Ptr, Store, Value};
-use c_meaning::types::{access_of_type, element_size, member_offset};
+use c_meaning::types::{access_of_type, element_size, is_atomic, member_offset};
 use c_tree::typed::{CType, Layout};
-use source_state::control::{Pending, Progress, Then, Use, Values, Wait};
+use source_state::control::{Pending, Progress, Site, Then, Use, Values, Wait};
 use source_state::frames::{
     after_argument, after_choice, after_first, after_first_test, after_only, after_place,
     after_second, after_second_test, one_more,
@@ -96,12 +96,22 @@ fn block_at(block: u64) -> Value
 }
 
 /// A place is read: that ends the turn.
-pub fn read(place: u32, how: Access, at: Value, k: &Rc<Use>) -> Result<Progress, NoMemory>
-    ensures { IfOk result (λ g. Reads place how at (use_of k.now.value) g) }
+pub fn read(site: Site, how: Access, at: Value, k: &Rc<Use>) -> Result<Progress, NoMemory>
+    ensures { IfOk result (λ g. Reads site.place how site.atomic at (use_of k.now.value) g) }
 {
-    let then = Then::Gives(place, k.clone()?);
+    let then = Then::Gives(site.place, k.clone()?);
     let action = SharedAction::Load(pointer_in(at), how);
-    Ok(Progress::Ends(Pending::Act(place, action, then)))
+    Ok(Progress::Ends(Pending::Act(site, action, then)))
+}
+
+// Where an object of this type is named.
+fn site_of(place: u32, ty: &CType) -> Site
+    ensures { result ≡ record { place = place; atomic = is_atomic (type_view ty.now) } }
+{
+    Site {
+        place,
+        atomic: is_atomic(ty),
+    }
 }
 
 // The value of a local.
@@ -111,7 +121,7 @@ fn local(place: u32, ty: &CType, variable: Variable, k: &Rc<Use>) -> Result<Prog
     match variable {
         Variable::Unset => Ok(Progress::Ends(Pending::Broke(Rule::C4, place))),
         Variable::Holds(v) => Ok(Progress::Gives(v)),
-        Variable::Lies(block) => read(place, access_of_type(ty), block_at(block), k),
+        Variable::Lies(block) => read(site_of(place, ty), access_of_type(ty), block_at(block), k),
     }
 }
 
@@ -292,11 +302,12 @@ fn object(
     ensures { IfOk result (λ g. FlowsRead program.now locals.now.now store.now (expr_of e.now) (use_of k.now.value) g) }
 {
     let how = access_of_type(&e.ty);
-    let after = after_place(alloc, e.place, how, k)?;
+    let site = site_of(e.place, &e.ty);
+    let after = after_place(alloc, site, how, k)?;
     match place(e, alloc, program, locals, store, &after)? {
         Progress::Ends(q) => Ok(Progress::Ends(q)),
         Progress::Gives(at) => {
-            let flow = read(e.place, how, at, k)?;
+            let flow = read(site, how, at, k)?;
             Ok(flow)
         }
     }

@@ -107,6 +107,27 @@ impl Drop for Todo {
     }
 }
 
+/// Where what an action reaches is named: the expression's place, and whether the object there is atomic.
+#[derive(Clone, Copy, Debug, PartialEq, Eq)]
+pub struct Site {
+    /// The place.
+    pub place: u32,
+    /// Whether the object is a number that is read and written whole.
+    pub atomic: bool,
+}
+
+impl Site {
+    /// An object that isn't atomic, named at this place.
+    pub fn plain(place: u32) -> Self
+        ensures { result ≡ record { place = place; atomic = false } }
+    {
+        Site {
+            place,
+            atomic: false,
+        }
+    }
+}
+
 /// What a value is used for.
 pub enum Use {
     /// The left operand of an operation.
@@ -116,7 +137,7 @@ pub enum Use {
     /// The only one.
     OnlyOf(u32, Rc<Unary>, Rc<Use>),
     /// The place that is read.
-    PlaceRead(u32, Access, Rc<Use>),
+    PlaceRead(Site, Access, Rc<Use>),
     /// The left operand of `&&` or `||`.
     FirstTest(u32, bool, Rc<SharedExpr>, Rc<Use>),
     /// The right one.
@@ -130,9 +151,9 @@ pub enum Use {
     /// The value of a local.
     ToLocal(u32, Rc<Todo>),
     /// The place of an assignment's left side.
-    LeftPlace(u32, Rc<SharedExpr>, Rc<Todo>),
+    LeftPlace(Site, Rc<SharedExpr>, Rc<Todo>),
     /// The value that is stored at a place.
-    ToPlace(u32, Value, Rc<Todo>),
+    ToPlace(Site, Value, Rc<Todo>),
     /// The place of the left side of an assigned struct.
     StructLeft(u32, Rc<CType>, Rc<SharedExpr>, Rc<Todo>),
     /// The place of the right one.
@@ -212,8 +233,8 @@ pub enum Then {
 pub enum Pending {
     /// A broken rule, at a place.
     Broke(Rule, u32),
-    /// An action, at a place.
-    Act(u32, SharedAction, Then),
+    /// An action, and where what it reaches is named.
+    Act(Site, SharedAction, Then),
     /// The end of a loop's round.
     Round(Rc<LoopParts>, Rc<Todo>),
     /// A call of a function of the program.

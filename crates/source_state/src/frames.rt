@@ -6,7 +6,7 @@ ghost use Rattle.source_tree.specs.SharedViews.{expr_of, args_of};
 ghost use Rattle.source_state.specs.Operations.{unary_of, binary_of};
 ghost use Rattle.source_state.specs.Views.{use_of, todo_of, wait_of, values_of, callee_of};
 
-use crate::control::{Todo, Use, Values, Wait};
+use crate::control::{Site, Todo, Use, Values, Wait};
 use crate::operations::{Binary, Unary};
 use ak_words::NoMemory;
 use block_store::{Access, Value};
@@ -53,10 +53,10 @@ pub fn after_only(
 }
 
 /// Behind the place that is read.
-pub fn after_place(alloc: Global, place: u32, how: Access, k: &Rc<Use>) -> Result<Rc<Use>, NoMemory>
-    ensures { IfOk result (λ after. use_of after.value ≡ control.place_read place how (use_of k.now.value)) }
+pub fn after_place(alloc: Global, site: Site, how: Access, k: &Rc<Use>) -> Result<Rc<Use>, NoMemory>
+    ensures { IfOk result (λ after. use_of after.value ≡ control.place_read site.place how site.atomic (use_of k.now.value)) }
 {
-    Ok(Rc::new(alloc, Use::PlaceRead(place, how, k.clone()?))?)
+    Ok(Rc::new(alloc, Use::PlaceRead(site, how, k.clone()?))?)
 }
 
 /// Behind the left operand of `&&` or `||`.

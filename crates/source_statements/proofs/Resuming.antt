@@ -126,10 +126,10 @@ second_test_continues p locals blocks place v k t g is_truth is_done = record {
       ∙ ap (λ (d : Progress). progress (here_at p function r) w (now_in locals blocks x) d) (sym is_done);
 }
 
-pub read_continues : (p : SharedProgram) (locals : List control.Variable) (blocks : Blocks) (place : ℕ) (how : Access) (v : Value) (k : control.Use) (g : Progress)
-    → Reads place how v k g
-    → Continues (λ h. read_way h place how) p locals blocks v k g
-read_continues p locals blocks place how v k g reads = record { goes = λ function r w x n. reads.goes (here_at p function r) w (now_in locals blocks x) n }
+pub read_continues : (p : SharedProgram) (locals : List control.Variable) (blocks : Blocks) (place : ℕ) (how : Access) (atomic : Bool) (v : Value) (k : control.Use) (g : Progress)
+    → Reads place how atomic v k g
+    → Continues (λ h. read_way h place how atomic) p locals blocks v k g
+read_continues p locals blocks place how atomic v k g reads = record { goes = λ function r w x n. reads.goes (here_at p function r) w (now_in locals blocks x) n }
 
 -- the left operand of && or ||
 pub test_continues_broke : (p : SharedProgram) (locals : List control.Variable) (blocks : Blocks) (place : ℕ) (decides : Bool) (e : tree.Expr) (v : Value) (k : control.Use) (rule : Rule)
@@ -219,17 +219,17 @@ one_other p function at o s k locals blocks new_locals new_blocks g is_some a = 
 -- ---- a op= b
 
 pub update_stores : (p : SharedProgram) (blocks : Blocks) (u : control.Update) (at by v s : Value) (place : ℕ) (k : control.Todo) (q : Pending)
-    → updated (program_of p).structs blocks u.ty u.op v by ≡ Ok s → Stores place at s k q → place ≡ u.place
+    → updated (program_of p).structs blocks u.ty u.op v by ≡ Ok s → Stores place false at s k q → place ≡ u.place
     → StoresUpdated p blocks u at by v k q
 update_stores p blocks u at by v s place k q is_s stores same_place =
-    let at_place : Stores u.place at s k q = subst (λ (n : ℕ). Stores n at s k q) same_place stores in
-    record { goes = λ function r w locals x n. ap (λ (t : Result Value Rule). on_ok u.operator (λ s. (place_way (here_at p function r) u.place at w).go s (now_in locals blocks x)) t) is_s ∙ at_place.goes (here_at p function r) w (now_in locals blocks x) n }
+    let at_place : Stores u.place false at s k q = subst (λ (n : ℕ). Stores n false at s k q) same_place stores in
+    record { goes = λ function r w locals x n. ap (λ (t : Result Value Rule). on_ok u.operator (λ s. (place_way (here_at p function r) u.place false at w).go s (now_in locals blocks x)) t) is_s ∙ at_place.goes (here_at p function r) w (now_in locals blocks x) n }
 
 pub update_broke : (p : SharedProgram) (blocks : Blocks) (u : control.Update) (at by v : Value) (rule : Rule) (operator : ℕ) (k : control.Todo)
     → updated (program_of p).structs blocks u.ty u.op v by ≡ Err rule → operator ≡ u.operator
     → StoresUpdated p blocks u at by v k (pendings.Broke rule operator)
 update_broke p blocks u at by v rule operator k is_broken same_place =
-    record { goes = λ function r w locals x n. ap (λ (t : Result Value Rule). on_ok u.operator (λ s. (place_way (here_at p function r) u.place at w).go s (now_in locals blocks x)) t) is_broken ∙ ap (λ (n : ℕ). ends (here_at p function r) (pendings.Broke rule n) (now_in locals blocks x)) (sym same_place) }
+    record { goes = λ function r w locals x n. ap (λ (t : Result Value Rule). on_ok u.operator (λ s. (place_way (here_at p function r) u.place false at w).go s (now_in locals blocks x)) t) is_broken ∙ ap (λ (n : ℕ). ends (here_at p function r) (pendings.Broke rule n) (now_in locals blocks x)) (sym same_place) }
 
 -- ---- calls
 
@@ -286,10 +286,10 @@ pub give_caller : (p : SharedProgram) (function : ℕ) (k : control.Use) (v : Va
     → GivesTo p function k v locals blocks locals blocks (pendings.Leave (Some v))
 give_caller p function k v locals blocks is_form = record { goes = λ r x. ap (λ (m : control.Use). (use_of (here_at p function r) m).go v (now_in locals blocks x)) is_form }
 
-pub give_stores : (p : SharedProgram) (function : ℕ) (place : ℕ) (to : Value) (k : control.Use) (rest : control.Todo) (v : Value) (locals : List control.Variable) (blocks : Blocks) (q : Pending)
-    → k ≡ control.to_place place to rest → Stores place to v rest q
+pub give_stores : (p : SharedProgram) (function : ℕ) (place : ℕ) (atomic : Bool) (to : Value) (k : control.Use) (rest : control.Todo) (v : Value) (locals : List control.Variable) (blocks : Blocks) (q : Pending)
+    → k ≡ control.to_place place atomic to rest → Stores place atomic to v rest q
     → GivesTo p function k v locals blocks locals blocks q
-give_stores p function place to k rest v locals blocks q is_form s = record { goes = λ r x. ap (λ (m : control.Use). (use_of (here_at p function r) m).go v (now_in locals blocks x)) is_form ∙ s.goes (here_at p function r) (way_of (here_at p function r) rest) (now_in locals blocks x) (name_todo (here_at p function r) rest) }
+give_stores p function place atomic to k rest v locals blocks q is_form s = record { goes = λ r x. ap (λ (m : control.Use). (use_of (here_at p function r) m).go v (now_in locals blocks x)) is_form ∙ s.goes (here_at p function r) (way_of (here_at p function r) rest) (now_in locals blocks x) (name_todo (here_at p function r) rest) }
 
 pub give_copies : (p : SharedProgram) (function : ℕ) (place : ℕ) (found ty : tree.Ty) (to : Value) (k : control.Use) (rest : control.Todo) (v : Value) (locals : List control.Variable) (blocks : Blocks) (q : Pending)
     → k ≡ control.struct_right place ty to rest → found ≡ ty → Copies p place found to v rest q

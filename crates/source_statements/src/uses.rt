@@ -25,7 +25,7 @@ use source_assignments::assignments::{
 };
 use source_expressions::expressions::{arguments, done, either, expr, read, second, second_test};
 use source_expressions::operations::{of_one, of_two};
-use source_state::control::{LoopParts, Pending, Progress, Todo, Updating, Use, Values, Wait};
+use source_state::control::{LoopParts, Pending, Progress, Site, Todo, Updating, Use, Values, Wait};
 use source_state::frames::one_more;
 use source_state::operations::{Binary, Unary};
 use source_state::{KeptStore, Locals, Variable};
@@ -270,7 +270,7 @@ fn update_read(
     ensures { IfOk result (λ q. StoresUpdated program.now store.now.now (updating_of u.now) at by v (todo_of k.now.value) q) }
 {
     match updated(&program.structs, store.store(), &u.ty, u.op, v, by)? {
-        Ok(r) => store_value(u.place, at, r, k),
+        Ok(r) => store_value(Site::plain(u.place), at, r, k),
         Err(rule) => Ok(Pending::Broke(rule, u.operator)),
     }
 }
@@ -338,8 +338,8 @@ pub fn give(
         Use::OnlyOf(place, op, k) => pass_only(
             *place, op, k, v, alloc, program, function, locals, store,
         ),
-        Use::PlaceRead(place, how, k) => pass_read(
-            *place, *how, k, v, alloc, program, function, locals, store,
+        Use::PlaceRead(site, how, k) => pass_read(
+            *site, *how, k, v, alloc, program, function, locals, store,
         ),
         Use::FirstTest(place, decides, right, k) => pass_first_test(
             *place, *decides, k, right, v, alloc, program, function, locals, store,
@@ -357,7 +357,7 @@ pub fn give(
             *place, callee, before, rest, k, v, alloc, program, locals, store,
         ),
         Use::ToCaller => Ok(Pending::Leave(Some(v))),
-        Use::ToPlace(place, to, k) => store_value(*place, *to, v, k),
+        Use::ToPlace(site, to, k) => store_value(*site, *to, v, k),
         Use::StructRight(place, ty, to, k) => copy_struct(program, *place, ty, *to, v, k),
         Use::UpdateRight(u, at, k) => update_right(u, alloc, *at, v, k),
         Use::UpdateRead(u, at, by, k) => update_read(program, store, u, *at, *by, v, k),
@@ -365,8 +365,8 @@ pub fn give(
         Use::ToLocal(number, k) => finish_local(
             *number, k, v, alloc, program, function, locals, store,
         ),
-        Use::LeftPlace(place, right, k) => finish_place(
-            *place, right, k, v, alloc, program, function, locals, store,
+        Use::LeftPlace(site, right, k) => finish_place(
+            *site, right, k, v, alloc, program, function, locals, store,
         ),
         Use::StructLeft(place, ty, right, k) => finish_struct(
             *place, ty, right, k, v, alloc, program, function, locals, store,
@@ -501,7 +501,7 @@ fn pass_only(
 // The place that is read has its value.
 #[cycle(uses)]
 fn pass_read(
-    place: u32,
+    site: Site,
     how: Access,
     k: &Rc<Use>,
     v: Value,
@@ -511,11 +511,11 @@ fn pass_read(
     locals: &mut Locals,
     store: &mut KeptStore,
 ) -> Result<Pending, NoMemory>
-    ensures comes { IfOk result (λ q. GivesTo program.now function (control.place_read place how (use_of k.now.value)) v locals.old.now store.old.now locals.new.now store.new.now q) }
+    ensures comes { IfOk result (λ q. GivesTo program.now function (control.place_read site.place how site.atomic (use_of k.now.value)) v locals.old.now store.old.now locals.new.now store.new.now q) }
     ensures locals { OnOk result (locals.new.kept ≡ locals.old.kept) }
     ensures store { OnOk result (store.new.kept ≡ store.old.kept) }
 {
-    let flow = read(place, how, v, k)?;
+    let flow = read(site, how, v, k)?;
     pass(flow, k, alloc, program, function, locals, store)
 }
 
@@ -560,7 +560,7 @@ fn finish_local(
 
 // The place of the left side of an assignment has its value.
 fn finish_place(
-    place: u32,
+    site: Site,
     right: &Rc<SharedExpr>,
     k: &Rc<Todo>,
     v: Value,
@@ -570,11 +570,11 @@ fn finish_place(
     locals: &mut Locals,
     store: &mut KeptStore,
 ) -> Result<Pending, NoMemory>
-    ensures comes { IfOk result (λ q. GivesTo program.now function (control.left_place place (expr_of right.now.value) (todo_of k.now.value)) v locals.old.now store.old.now locals.new.now store.new.now q) }
+    ensures comes { IfOk result (λ q. GivesTo program.now function (control.left_place site.place site.atomic (expr_of right.now.value) (todo_of k.now.value)) v locals.old.now store.old.now locals.new.now store.new.now q) }
     ensures locals { OnOk result (locals.new.kept ≡ locals.old.kept) }
     ensures store { OnOk result (store.new.kept ≡ store.old.kept) }
 {
-    let exit = assign_place(right, alloc, program, locals, store, place, v, k)?;
+    let exit = assign_place(right, alloc, program, locals, store, site, v, k)?;
     complete(k, exit, alloc, program, function, locals, store)
 }
 

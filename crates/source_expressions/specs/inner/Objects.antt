@@ -29,5 +29,5 @@ pub record FindsVariable (place : ℕ) (v : control.Variable) (g : Progress) : T
 -- an lvalue gets so far that is read
 pub record FlowsRead (p : SharedProgram) (locals : List control.Variable) (blocks : Blocks) (e : tree.Expr) (k : control.Use) (g : Progress) : Type 0 where
   pub goes : (function : ℕ) (r : Rest) (w : turns.WayOfUse) (x : actions.World) → w.k ≡ k →
-      turns.run_place (here_at p function r) e (turns.read_way (here_at p function r) (tree.place_of e) (values.access_of_type (tree.type_of e)) w) (now_in locals blocks x)
+      turns.run_place (here_at p function r) e (turns.read_way (here_at p function r) (tree.place_of e) (values.access_of_type (tree.type_of e)) (values.is_atomic (tree.type_of e)) w) (now_in locals blocks x)
       ≡ progress (here_at p function r) w (now_in locals blocks x) g

@@ -39,8 +39,8 @@ pub pass_read-returns-clause-comes : goal.pass_read-returns-clause-comes
 pass_read-returns-clause-comes t c =
     let rest = use_of c.args.k.now.value in
     IfOk-weaker c.pass.result _ _
-    (λ q f. give_flow (λ h. read_way h c.args.place c.args.how) c.args.program.now c.args.function (control.place_read c.args.place c.args.how rest) (control.place_read c.args.place c.args.how rest) rest c.args.v _ _ _ _ _ q
-    refl (λ h. refl) (read_continues _ _ _ _ _ _ _ _ c.in_ok-flow.ensures) f)
+    (λ q f. give_flow (λ h. read_way h c.args.site.place c.args.how c.args.site.atomic) c.args.program.now c.args.function (control.place_read c.args.site.place c.args.how c.args.site.atomic rest) (control.place_read c.args.site.place c.args.how c.args.site.atomic rest) rest c.args.v _ _ _ _ _ q
+    refl (λ h. refl) (read_continues _ _ _ _ _ _ _ _ _ c.in_ok-flow.ensures) f)
     c.pass.ensures.comes
 
 pub pass_second_test-returns-clause-comes : goal.pass_second_test-returns-clause-comes
@@ -147,7 +147,7 @@ give-returns-in-ToCaller-clause-comes t c =
 
 pub give-returns-in-ToPlace-clause-comes : goal.give-returns-in-ToPlace-clause-comes
 give-returns-in-ToPlace-clause-comes t c =
-    IfOk-weaker c.store_value.result _ _ (λ q s. give_stores c.args.program.now c.args.function c.in-ToPlace.place c.in-ToPlace.to (use_of c.args.k.now) (todo_of c.in-ToPlace.k.value) c.args.v _ _ q (ap use_of c.in-ToPlace.is) s) c.store_value.ensures
+    IfOk-weaker c.store_value.result _ _ (λ q s. give_stores c.args.program.now c.args.function c.in-ToPlace.site.place c.in-ToPlace.site.atomic c.in-ToPlace.to (use_of c.args.k.now) (todo_of c.in-ToPlace.k.value) c.args.v _ _ q (ap use_of c.in-ToPlace.is) s) c.store_value.ensures
 
 pub give-returns-in-StructRight-clause-comes : goal.give-returns-in-StructRight-clause-comes
 give-returns-in-StructRight-clause-comes t c =

@@ -1,0 +1,278 @@
+//! What an action touches.
+
+ghost use Rattle.std.specs.Prelude.{◌≡◌, ◌++◌, ◌×◌, ℕ, Bool, true, IfOk, IfSome, OnOk, map};
+ghost use Rattle.block_store.specs.Actions as actions;
+ghost use Rattle.block_store.specs.Actions.{bytes_at, reading_part, reading_parts};
+ghost use Rattle.block_store.specs.declared.values.Answer.{Answer};
+ghost use Rattle.c_meaning.specs.Touches.{each, of_thread, read_kind, renewal, starting, touches_of, whole_block, write_kind};
+ghost use Rattle.source_state.specs.Worlds.{action_of, printed_of, world_of};
+ghost use Rattle.block_meaning.specs.inner.Touches.{GainsOnly, before_its_end, end_of};
+
+use ak_words::NoMemory;
+use block_store::{Answer, Ptr, Value};
+use race_rules::{Touch, TouchKind};
+use smallvec::SmallVec;
+use source_state::control::Site;
+use source_state::{Printed, SharedAction, World};
+use std::alloc::Global;
+
+/// What a turn touched, in order.
+pub type Touches = SmallVec<Touch, 2>;
+
+/// The two numbers that a compare reaches, of so many bytes: which of them it writes is known once it is done.
+#[derive(Clone, Copy, Debug, PartialEq, Eq)]
+pub struct Comparing {
+    /// The object.
+    pub at: Ptr,
+    /// The wanted number.
+    pub want: Ptr,
+    /// The bytes of each.
+    pub bytes: u32,
+}
+
+/// Touches that are gathered, each named at one place.
+#[derive(Drop)]
+pub struct Gathered {
+    /// The place.
+    pub place: u32,
+    /// The touches.
+    pub touches: Touches,
+    /// Whether each could be told: its cells end below 2^32, and its thread's number is less. Of what is done each can.
+    pub fits: bool,
+}
+
+impl Gathered {
+    ghost use Rattle.std.specs.Prelude.{[], ◌∷◌};
+
+    // No touches.
+    fn new(alloc: Global, place: u32) -> Self
+        ensures { result.touches.items ≡ [] }
+        ensures place { result.place ≡ place }
+        ensures fits { result.fits ≡ true }
+    {
+        Gathered {
+            place,
+            touches: SmallVec::new(alloc),
+            fits: true,
+        }
+    }
+
+    // So many bytes at a pointer are touched, where there is one and the pointer isn't null.
+    fn bytes(&mut self, kind: TouchKind, at: Ptr, bytes: u128) -> Result<(), NoMemory>
+        ensures { OnOk result ((writes : Bool) → GainsOnly self.old self.new (each self.old.place kind (bytes_at writes bytes at))) }
+    {
+        if let Ptr::To { block, offset } = at {
+            if bytes > 0 {
+                match end_below(offset, bytes) {
+                    Some(to) => self.touches.push(Touch {
+                        kind,
+                        block,
+                        from: offset,
+                        to,
+                        place: self.place,
+                    })?,
+                    None => self.fits = false,
+                }
+            }
+        }
+        Ok(())
+    }
+
+    // All cells of the block at a pointer are touched.
+    fn whole_block(&mut self, kind: TouchKind, world: &World, at: Ptr) -> Result<(), NoMemory>
+        ensures { OnOk result (GainsOnly self.old self.new (whole_block self.old.place kind (world_of world.now).blocks at)) }
+    {
+        match at {
+            Ptr::Null => Ok(()),
+            Ptr::To { block, offset: _ } => {
+                let size = world.store.store().live_size(block).unwrap_or(0);
+                self.bytes(kind, Ptr::To { block, offset: 0 }, u128::from(size))
+            }
+        }
+    }
+
+    // A realloc is told this answer.
+    fn renewal(&mut self, world: &World, answer: Answer, at: Ptr) -> Result<(), NoMemory>
+        ensures { OnOk result (GainsOnly self.old self.new (renewal self.old.place answer (world_of world.now).blocks at)) }
+    {
+        if let Answer::Got = answer {
+            self.whole_block(TouchKind::Read, world, at)?;
+            self.whole_block(TouchKind::Write, world, at)?;
+        }
+        Ok(())
+    }
+
+    // A thread is made or joined.
+    fn of_thread(&mut self, kind: TouchKind) -> Result<(), NoMemory>
+        ensures { OnOk result (GainsOnly self.old self.new (of_thread self.old.place kind ∷ [])) }
+    {
+        self.touches.push(Touch {
+            kind,
+            block: 0,
+            from: 0,
+            to: 0,
+            place: self.place,
+        })?;
+        Ok(())
+    }
+
+    // A new thread is told this answer.
+    fn starting(&mut self, world: &World, answer: Answer, to: Ptr) -> Result<(), NoMemory>
+        ensures { OnOk result (GainsOnly self.old self.new (starting self.old.place answer to (length (world_of world.now).threads))) }
+    {
+        if let Answer::Got = answer {
+            self.bytes(TouchKind::Write, to, 8)?;
+            match u32::try_from(world.threads.len()) {
+                Ok(number) => self.of_thread(TouchKind::Start(number))?,
+                Err(_) => self.fits = false,
+            }
+        }
+        Ok(())
+    }
+
+    // The thread of this number is joined.
+    fn joining(&mut self, number: u128, to: Ptr) -> Result<(), NoMemory>
+        ensures { OnOk result (GainsOnly self.old self.new (each self.old.place Write (writing 4 to) ++ of_thread self.old.place (Join number) ∷ [])) }
+    {
+        self.bytes(TouchKind::Write, to, 4)?;
+        if number > u32::MAX as u128 {
+            self.fits = false;
+            return Ok(());
+        }
+        self.of_thread(TouchKind::Join(number as u32))
+    }
+
+    // Texts are read.
+    fn print(&mut self, world: &World, parts: &[Printed]) -> Result<(), NoMemory>
+        ensures { OnOk result (GainsOnly self.old self.new (each self.old.place Read (reading_parts (world_of world.now).blocks (map printed_of parts.now)))) }
+    {
+        'parts: for part in parts {
+            self.part(world, part)?;
+        }
+        Ok(())
+    }
+
+    // A part of what is printed is read; a text with the zero byte that ends it.
+    fn part(&mut self, world: &World, part: &Printed) -> Result<(), NoMemory>
+        ensures { OnOk result (ReadsPart self.old self.new (world_of world.now).blocks (printed_of part.now)) }
+    {
+        match part {
+            Printed::Bytes(_) => Ok(()),
+            Printed::Text(at) => match world.store.store().text_len(*at) {
+                Ok(length) => self.bytes(TouchKind::Read, *at, u128::from(length) + 1),
+                Err(_) => {
+                    self.fits = false;
+                    Ok(())
+                }
+            },
+        }
+    }
+}
+
+// Where so many bytes from an offset on end, if that is below 2^32.
+fn end_below(offset: u32, bytes: u128) -> Option<u32>
+    ensures { IfSome result (λ to. to ≡ offset + bytes) }
+{
+    if bytes > u32::MAX as u128 {
+        return None;
+    }
+    offset.checked_add(bytes as u32)
+}
+
+// The kind of a read, and of a write.
+fn read_kind(atomic: bool) -> TouchKind
+    ensures { result ≡ read_kind atomic }
+{
+    if atomic {
+        TouchKind::AtomicRead
+    } else {
+        TouchKind::Read
+    }
+}
+
+fn write_kind(atomic: bool) -> TouchKind
+    ensures { result ≡ write_kind atomic }
+{
+    if atomic {
+        TouchKind::AtomicWrite
+    } else {
+        TouchKind::Write
+    }
+}
+
+/// What an action touches in this world, if it is done under this answer; of a compare all but what it writes.
+pub fn gather(
+    alloc: Global,
+    world: &World,
+    answer: Answer,
+    site: Site,
+    action: &SharedAction,
+) -> Result<Gathered, NoMemory>
+    ensures place { IfOk result (λ g. g.place ≡ site.place) }
+    ensures touches { IfOk result (λ g. g.fits ≡ true → g.touches.items ≡ before_its_end site.place (world_of world.now) answer site.atomic (action_of action.now)) }
+{
+    let mut g = Gathered::new(alloc, site.place);
+    match action {
+        SharedAction::Load(at, how) => {
+            g.bytes(read_kind(site.atomic), *at, u128::from(how.size()))?
+        }
+        SharedAction::Store(at, v) => {
+            g.bytes(write_kind(site.atomic), *at, u128::from(v.access().size()))?
+        }
+        SharedAction::Copy(to, from, n, _, _) => {
+            g.bytes(TouchKind::Read, *from, *n)?;
+            g.bytes(TouchKind::Write, *to, *n)?;
+        }
+        SharedAction::Allocate(_, _) => {}
+        SharedAction::Reallocate(at, _) => g.renewal(world, answer, *at)?,
+        SharedAction::Free(at) => g.whole_block(TouchKind::Write, world, *at)?,
+        SharedAction::Change(at, _, by) => {
+            let bytes = u128::from(by.ty.bits / 8);
+            g.bytes(TouchKind::AtomicRead, *at, bytes)?;
+            g.bytes(TouchKind::AtomicWrite, *at, bytes)?;
+        }
+        SharedAction::Compare(at, want, new) => {
+            let bytes = u128::from(new.ty.bits / 8);
+            g.bytes(TouchKind::AtomicRead, *at, bytes)?;
+            g.bytes(TouchKind::Read, *want, bytes)?;
+        }
+        SharedAction::Print(parts) => g.print(world, parts)?,
+        SharedAction::Lock(at) => g.bytes(TouchKind::Lock, *at, 8)?,
+        SharedAction::Unlock(at) => g.bytes(TouchKind::Unlock, *at, 8)?,
+        SharedAction::Destroy(at) => g.bytes(TouchKind::Write, *at, 8)?,
+        SharedAction::Start(to, _, _) => g.starting(world, answer, *to)?,
+        SharedAction::Join(number, to) => g.joining(*number, *to)?,
+        SharedAction::Finish(_) => {}
+    }
+    Ok(g)
+}
+
+/// The numbers that a compare reaches.
+pub fn comparing(action: &SharedAction) -> Option<Comparing>
+    ensures { result ≡ comparing_of action.now }
+{
+    match action {
+        SharedAction::Compare(at, want, new) => Some(Comparing {
+            at: *at,
+            want: *want,
+            bytes: u32::from(new.ty.bits) / 8,
+        }),
+        _ => None,
+    }
+}
+
+/// All touches of what was done, which gave this value: a compare writes the object where that is 1, and else the wanted number.
+/// None where one can't be told.
+pub fn finish(g: Gathered, c: Option<Comparing>, v: Option<Value>) -> Result<Option<Touches>, NoMemory>
+    ensures { IfOk result (λ o. IfSome o (λ t. (w next : actions.World) (thread : ℕ) (answer : Answer) (atomic : Bool) (action : SharedAction) → c ≡ comparing_of action → (g.fits ≡ true → g.touches.items ≡ before_its_end g.place w answer atomic (action_of action)) → actions.acted w thread answer (action_of action) ≡ actions.went v next → t.items ≡ touches_of g.place w answer atomic (action_of action))) }
+{
+    let mut g = g;
+    if let Some(c) = c {
+        let (kind, at) = match v {
+            Some(Value::Num(Num { value: 1, .. })) => (TouchKind::AtomicWrite, c.at),
+            _ => (TouchKind::Write, c.want),
+        };
+        g.bytes(kind, at, u128::from(c.bytes))?;
+    }
+    if g.fits { Ok(Some(g.touches)) } else { Ok(None) }
+}
