@@ -63,6 +63,13 @@ text 10 '' 'ended: stack limit 0' 'int f(int n){return f(n+1);}int main(void){re
 text 0 '' 'ended: done 0' 'int main(void){int z=0;int a=1/z;int b=a%z;int c=1<<99;return 0;}'
 text 0 '' 'ended: done 2147483647' 'int main(void){int a=2147483647;return a;}'
 
+# The same with evacuations: a sub-heap is emptied for a malloc of its size, and what is wild stays so.
+emptied='int main(void){char *a=malloc(4096);char *b=malloc(64);free(a);char *c=malloc(64);char *d=malloc(4096);printf("%d\n",d!=NULL);return 0;}'
+text 0 1 'evacuated: 1 sub-heaps' "$emptied" --subheap 4096 --subheaps 2 --evacuate 1
+text 0 0 'room 4032' "$emptied" --subheap 4096 --subheaps 2 --evacuate 0
+text 0 '' 'evacuated: 0 sub-heaps' 'int main(void){char *p=malloc(16);p[20]=1;return 0;}' --every 1 --evacuate 1
+text 6 '' 'ended: trap free 9223372036854775808' 'int main(void){char *p=malloc(8);free(p);free(p);return 0;}' --ids 1 --evacuate 1
+
 # The same and others, checked: there is no machine, no stack and no limit but that of turns.
 text 12 '' 'text.c:1:35: broke C5 after 0 turns' 'int main(void){int *p=NULL;return *p;}' --mode check
 text 12 before 'text.c:1:48: broke C5 after 1 turns' 'int main(void){char *p=NULL;printf("before\n");printf("%s",p);return 0;}' --mode check
@@ -150,6 +157,7 @@ code() { # status what-is-printed what-the-report-has file words..
 
 build 'int main(void){int *p=malloc(4);*p=41;*p=*p+1;printf("%d\n",*p);free(p);return 0;}' heap.alsk
 code 0 42 'ended: done 0' heap.alsk
+code 0 42 'evacuated: 0 sub-heaps' heap.alsk --evacuate 1
 build 'int main(void){char *p=malloc(16);p[100000000]=1;return 0;}' trap.alsk
 code 6 '' 'ended: trap store 104198400' trap.alsk
 build 'mtx_t m;int main(void){mtx_init(&m,mtx_plain);mtx_lock(&m);mtx_lock(&m);return 0;}' blocked.alsk
