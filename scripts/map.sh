@@ -28,6 +28,7 @@ STEPS = [
     ("what a call promises", "alaska_run"),
     ("C's numbers and rules, and the entries of a journal", "ak_words ak_trace"),
     ("which typed tree a text has, or why it is refused", "c_lex c_tree c_grammar c_typing"),
+    ("which turns of threads race", "race_rules"),
     ("what the typed tree does, turn by turn, over named blocks", "block_store c_meaning"),
     ("what code is, and that it keeps the turns", "struct_ir lower_forms lower_turns pin_flow pin_checker compile_passes"),
     ("the machine, whose objects move",
@@ -36,6 +37,7 @@ STEPS = [
     ("what a journal stands for", "flat_simulation flat_replay"),
     ("what the words want, what is read, and what is written", "run_words run_churn ak_io run_edges run_notes"),
     ("what mode check finds", "source_tree source_state block_meaning rule_check"),
+    ("what mode race finds", "race_check"),
     ("what a code file is, as modes build and load have it", "formats code_file code_save code_load"),
 ]
 
