@@ -32,7 +32,7 @@ STEPS = [
     ("what code is, and that it keeps the turns", "struct_ir lower_forms lower_turns pin_flow pin_checker compile_passes"),
     ("the machine, whose objects move",
      "handle_words handle_table flat_words flat_store sub_heaps move_plan evacuate arena_meaning flat_meaning"),
-    ("which journals a run may have", "flat_rules flat_threads flat_machine"),
+    ("which journals a run may have", "flat_rules world_rules flat_threads flat_machine"),
     ("what a journal stands for", "flat_simulation flat_replay"),
     ("what the words want, what is read, and what is written", "run_words run_churn ak_io run_edges run_notes"),
     ("what mode check finds", "source_tree source_state block_meaning rule_check"),
