@@ -137,7 +137,8 @@ fn lines_of_a_check(rt: HostRuntime) -> Result<(), Fail> {
 }
 
 // Main and a thread write x.
-const RACING: &[u8] = b"int x;int f(void *v){x=1;return 0;}\nint main(void){thrd_t t;thrd_create(&t,f,NULL);x=2;thrd_join(t,NULL);return 0;}";
+const RACING: &[u8] =
+    b"int x;int f(void *v){x=1;return 0;}\nint main(void){thrd_t t;thrd_create(&t,f,NULL);x=2;thrd_join(t,NULL);return 0;}";
 
 const RACE: RaceNote = RaceNote::Race(
     RaceSide { place: 83, turn: 1 },
