@@ -1,15 +1,15 @@
 -- The walks over an order, in the loops' words.
-use Rattle.std.proofs.Common.{◌≡◌, ℕ, zero, suc, ◌+◌, ◌<◌, ◌≤◌, Bool, true, false, List, [], ◌∷◌, map, length, slice_get, Option, Some, None, IsSome, MatchOption, inl, inr, refl, sym, ap, subst, ◌∙◌, arith}
+use Rattle.std.proofs.Common.{◌≡◌, ℕ, suc, ◌+◌, ◌<◌, ◌≤◌, Bool, true, List, [], ◌∷◌, map, length, slice_get, Some, IsSome, inl, inr, refl, sym, ap, subst, ◌∙◌, arith}
 use Rattle.std.proofs.lemmas.Bool.{cases_lt}
 use Rattle.ak_words.specs.declared.rule.Rule.{Rule}
 use Rattle.ak_trace.specs.declared.entry.Entry.{Entry}
 use Rattle.ak_trace.specs.declared.order.Answer as journal
 use Rattle.ak_trace.specs.Order as entries
 use Rattle.block_store.specs.declared.values.Answer.{Answer}
-use Rattle.block_store.specs.Runs.{Pick, State, Turn, first_state, picked, breaks, reaches}
+use Rattle.block_store.specs.Runs.{Pick, State, picked, breaks, reaches}
 use Rattle.c_tree.specs.Typed.{Typed}
 use Rattle.c_meaning.specs.Control.{Control}
-use Rattle.c_meaning.specs.Meaning.{program, start, run}
+use Rattle.c_meaning.specs.Meaning.{program, run}
 use Rattle.c_meaning.specs.Touching.{touched_by, turns_of}
 use Rattle.flat_meaning.specs.Order.{pick}
 use Rattle.flat_meaning.specs.Journals.{told, journal_picks}
@@ -18,7 +18,7 @@ use Rattle.block_meaning.specs.declared.running.Turned.TheVariants as turneds
 use Rattle.block_meaning.specs.Running.{Running, answered_if, left_by}
 use Rattle.race_rules.specs.declared.touch.Touch.{Touch}
 use Rattle.race_rules.specs.Turns as turns
-use Rattle.race_rules.specs.Races.{Race, Second, First}
+use Rattle.race_rules.specs.Races.{Race, Second}
 use Rattle.race_rules.specs.Shown.{Shown}
 use Rattle.race_rules.proofs.Knowing.{some_one}
 use Rattle.race_walk.specs.declared.walk.RaceWalk.{RaceWalk}
@@ -30,7 +30,7 @@ use Rattle.race_check.specs.declared.ending.Side.{Side}
 use Rattle.race_check.specs.declared.ending.RaceEnd.TheVariants as ends
 use Rattle.race_check.specs.declared.walking.Walked.{Walked}
 use Rattle.race_check.specs.declared.walking.Walked.TheVariants as walks
-use Rattle.race_check.specs.Ends.{HaveNoRace, IsSide, IsTold, IsRaceEnd}
+use Rattle.race_check.specs.Ends.{HaveNoRace, IsTold, IsRaceEnd}
 use Rattle.race_check.specs.inner.Steps.{Begins, HasRun, IsSecond, IsWalked}
 use Rattle.race_check.proofs.Going.{HasCome, is_done, come_first, is_there, next_is, come_more, come_broke, come_all}
 use Rattle.race_check.proofs.Telling.{race_end, broke_end, clean_end, none_race, reaches_breaks}

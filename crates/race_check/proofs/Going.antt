@@ -1,5 +1,5 @@
 -- How the run of an order goes on, turn by turn, and its turns with it.
-use Rattle.std.proofs.Common.{◌≡◌, ℕ, zero, suc, ◌≤◌, ◌==◌, Bool, true, false, List, [], ◌∷◌, length, drop, slice_get, Option, Some, None, IsSome, ℤ, refl, sym, ap, subst, ◌∙◌, arith, length-drop}
+use Rattle.std.proofs.Common.{◌≡◌, ℕ, zero, suc, ◌≤◌, ◌==◌, ◌⊎◌, inl, inr, Bool, true, false, List, [], ◌∷◌, length, drop, slice_get, Option, Some, None, IsSome, ℤ, refl, sym, ap, ◌∙◌, arith, length-drop}
 use Rattle.ak_words.specs.declared.rule.Rule.{Rule}
 use Rattle.block_store.specs.Runs.{Program, State, Pick, Turn, went, ended, blocked, unfit, broke, Run, reaches, breaks, no_run, first_state, goes_on, picked, run_from}
 use Rattle.c_tree.specs.Typed.{Typed}
@@ -41,6 +41,10 @@ is_done (turneds.Ended exit) = true
 is_done turneds.Blocked = false
 is_done turneds.Unfit = false
 is_done (turneds.Broke rule place) = false
+
+pub went_is_done : (t : Turned) → (t ≡ turneds.Went) ⊎ ((exit : ℤ) × (t ≡ turneds.Ended exit)) → is_done t ≡ true
+went_is_done t (inl e) = ap is_done e
+went_is_done t (inr e) = ap is_done e.1
 
 not_done : (t u : Turned) → Some t ≡ Some u → is_done t ≡ false → is_done u ≡ true → ⊥
 not_done t u e f g = let same : t ≡ u = cc e in absurd (cc (sym f ∙ ap is_done same ∙ g))

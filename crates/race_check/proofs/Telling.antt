@@ -1,5 +1,5 @@
 -- What is told is told of one end alone.
-use Rattle.std.proofs.Common.{◌≡◌, ◌≢◌, ℕ, ◌<◌, ◌≤◌, ◌⊎◌, inl, inr, List, length, slice_get, Some, refl, sym, ap, subst, ◌∙◌, arith}
+use Rattle.std.proofs.Common.{◌≡◌, ◌≢◌, ℕ, ◌<◌, ◌≤◌, inl, inr, List, length, slice_get, Some, refl, sym, ap, subst, ◌∙◌, arith}
 use Rattle.std.proofs.lemmas.Bool.{cases_lt}
 use Rattle.std.proofs.lemmas.Option.{slice_get_within}
 use Rattle.ak_words.specs.declared.rule.Rule.{Rule}
@@ -9,9 +9,8 @@ use Rattle.c_meaning.specs.Touching.{turns_of}
 use Rattle.race_rules.specs.declared.touch.Touch.{Touch}
 use Rattle.race_rules.specs.Turns.{Turn}
 use Rattle.race_rules.specs.Races.{Race, Second, First}
-use Rattle.race_rules.specs.Shown.{FirstOf, ClashesOne, Shown}
+use Rattle.race_rules.specs.Shown.{FirstOf, ClashesOne}
 use Rattle.race_rules.specs.Shown.FirstOf.{first_here, first_later}
-use Rattle.race_rules.specs.Histories.{After}
 use Rattle.race_rules.proofs.Knowing.{some_one}
 use Rattle.race_check.specs.declared.ending.Side.{Side}
 use Rattle.race_check.specs.declared.ending.RaceEnd.{RaceEnd}
@@ -68,8 +67,7 @@ same_sides : (x y : Turn) (a b c d : Side) → Sides x y a b → Sides x y c d �
 same_sides x y a b c d s t =
     let one = first_one (ClashesOne y.touches) x.touches s.one t.one s.first_one t.first_one in
     let other = first_one (ClashesOne x.touches) y.touches s.other t.other s.second_one t.second_one in
-    let F : Touch → ℕ = λ z. z.place in
-    (
+    let F : Touch → ℕ = λ z. z.place in (
       (s.first_side.thread ∙ sym t.first_side.thread, s.first_side.place ∙ ap F one ∙ sym t.first_side.place),
       (s.second_side.thread ∙ sym t.second_side.thread, s.second_side.place ∙ ap F other ∙ sym t.second_side.place),
     )

@@ -1,9 +1,9 @@
 -- Ends worked out by hand.
 use Rattle.std.proofs.Common.{◌≡◌, ◌≢◌, ℕ, zero, suc, ◌<◌, List, slice_get, Some, refl, subst, arith}
 use Rattle.ak_words.specs.declared.rule.Rule.TheVariants.{C5}
-use Rattle.block_store.specs.Runs.{Run, State, reaches, breaks}
+use Rattle.block_store.specs.Runs.{reaches, breaks}
 use Rattle.race_rules.specs.declared.touch.TouchKind.TheVariants.{Write, Lock, Unlock}
-use Rattle.race_rules.specs.Turns.{Turn, Has, Pair}
+use Rattle.race_rules.specs.Turns.{Turn, Pair}
 use Rattle.race_rules.specs.Turns.Has.{here, later}
 use Rattle.race_rules.specs.Races.{Clash, Race}
 use Rattle.race_rules.specs.Shown.{Shows}
@@ -11,7 +11,7 @@ use Rattle.race_rules.specs.Rows.{touch, main_turn, other_turn, racing, turn, ha
 use Rattle.race_rules.proofs.Knowing.{some_one}
 use Rattle.race_rules.proofs.Touching.{no_has}
 use Rattle.race_rules.proofs.WorkedRows.{racing_row, shown_row, handed_row}
-use Rattle.race_check.specs.Ends.{HaveNoRace, IsSide, IsTold, IsEnd}
+use Rattle.race_check.specs.Ends.{HaveNoRace, IsSide, IsTold}
 use Rattle.race_check.specs.Rows.{side, EndsStand}
 use Rattle.race_check.proofs.Telling.{race_end, broke_end, clean_end, reaches_breaks}
 

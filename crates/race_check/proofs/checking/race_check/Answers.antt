@@ -15,4 +15,6 @@ returns-in-Broke c =
     c.in-Broke.is
 
 pub returns-in_ok-first-in-Raced : goal.returns-in_ok-first-in-Raced
-returns-in_ok-first-in-Raced c = let h = c.in_ok-first-in-Raced in let g = c.in_ok-again-in-Raced in let f = c.in-Raced in ?
+returns-in_ok-first-in-Raced c =
+    told_race (typed_view c.args.typed) (running_of c.in_ok-again-in-Raced.again).typed (journal_picks c.args.journal.now.entries) c.in_ok-first-in-Raced.first c.in_ok-first-in-Raced.second
+    (c.in_ok-again-in-Raced.ensures.program ∙ c.in_ok-walk.ensures.program ∙ c.in_ok-run.ensures.program) c.in_ok-first-in-Raced.ensures

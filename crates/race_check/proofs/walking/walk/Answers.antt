@@ -1,8 +1,8 @@
-use Rattle.std.proofs.Common.{◌≡◌, true, ◌∙◌}
+use Rattle.std.proofs.Common.{◌∙◌}
 use Rattle.flat_meaning.specs.Journals.{journal_picks}
 use Rattle.c_meaning.specs.Touching.{turns_of}
 use Rattle.block_meaning.specs.Running.{running_of}
-use Rattle.race_check.proofs.Going.{is_done}
+use Rattle.race_check.proofs.Going.{went_is_done}
 use Rattle.race_check.proofs.Along.{IsTurned, along_all, along_more, turn_is, breaks_here, ends_clean, ends_broke, ends_raced}
 use Rattle.race_check.proofs.walking.walk.Goals as goal
 
@@ -15,10 +15,10 @@ returns-then-branch-clause-walked c =
     let after = (running_of c.turn.new.self).state in
     let touches = c.touched-touches.result.now in
     let turned : IsTurned now s after c.in-Some.thread c.told.result c.in_ok-turn.field-0 touches =
-        record { says = c.in_ok-turn.ensures.answer; leaves = c.in_ok-turn.ensures.state; touched = c.touched-touches.ensures ∙ c.in_ok-turn.ensures.touched } in
-    let done : is_done c.in_ok-turn.field-0 ≡ true = (let h = c.in-Went.is in ?) in
+    record { says = c.in_ok-turn.ensures.answer; leaves = c.in_ok-turn.ensures.state; touched = c.touched-touches.ensures ∙ c.in_ok-turn.ensures.touched } in
+    let done = went_is_done c.in_ok-turn.field-0 c.in-Went.is in
     let at = turn_is typed now order c.loop-thread.walk.turns c.loop-thread.thread-iterator c.next.new.self s c.in-Some.thread c.in-Some.answer c.told.result c.loop-thread.invariant.along c.in-Some.ensures.steps c.told.ensures
-        after c.in_ok-turn.field-0 touches turned done in
+    after c.in_ok-turn.field-0 touches turned done in
     let f = c.in_ok-turn-in-Went.ensures.finds (turns_of typed order) c.loop-thread.invariant.after at in
     ends_raced (turns_of typed order) c.loop-thread.walk c.turn-in-Went.new.self c.in_ok-second-in-Went.second c.in-Some.thread touches c.in_ok-turn-in-Went.field-0 at f c.if-branch.true c.in_ok-second-in-Went.ensures.number
     c.in_ok-second-in-Went.ensures.turn
@@ -32,10 +32,10 @@ loop-thread-preserved c =
     let after = (running_of c.turn.new.self).state in
     let touches = c.touched-touches.result.now in
     let turned : IsTurned now s after c.in-Some.thread c.told.result c.in_ok-turn.field-0 touches =
-        record { says = c.in_ok-turn.ensures.answer; leaves = c.in_ok-turn.ensures.state; touched = c.touched-touches.ensures ∙ c.in_ok-turn.ensures.touched } in
-    let done : is_done c.in_ok-turn.field-0 ≡ true = ? in
+    record { says = c.in_ok-turn.ensures.answer; leaves = c.in_ok-turn.ensures.state; touched = c.touched-touches.ensures ∙ c.in_ok-turn.ensures.touched } in
+    let done = went_is_done c.in_ok-turn.field-0 c.in-Went.is in
     let at = turn_is typed now order c.loop-thread.walk.turns c.loop-thread.thread-iterator c.next.new.self s c.in-Some.thread c.in-Some.answer c.told.result c.loop-thread.invariant.along c.in-Some.ensures.steps c.told.ensures
-        after c.in_ok-turn.field-0 touches turned done in
+    after c.in_ok-turn.field-0 touches turned done in
     let f = c.in_ok-turn-in-Went.ensures.finds (turns_of typed order) c.loop-thread.invariant.after at in
     record {
       can_next = tt;
