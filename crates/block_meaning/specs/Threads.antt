@@ -26,7 +26,7 @@ callers_of v = map caller_of (reverse v.items)
 
 -- what a thread has of its own
 abbrev pub control_of : Own → control.Control
-control_of own = record { function = own.function; locals = own.locals.now; point = point_of_at own.at; callers = callers_of own.callers }
+control_of own = record { function = own.function; locals = own.locals.now; point = point_of_at own.at; callers = callers_of own.callers; touched = own.touched.items }
 
 -- what each thread has of its own: none once it has ended
 abbrev pub owns_of : List (Option Own) → List (Option control.Control)

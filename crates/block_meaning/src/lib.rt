@@ -10,6 +10,7 @@ mod perform;
 mod running;
 mod taking;
 mod thread;
+mod touches;
 mod turn;
 
 pub use block_store::Answer;
