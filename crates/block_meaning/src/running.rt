@@ -61,20 +61,7 @@ pub struct SourceRun {
 }
 
 impl SourceRun {
-    /// The thread of a turn, if the turn was done.
-fn done_by(turned: Turned, thread: u32) -> Option<u32>
-    ensures { result ≡ done_by turned thread }
-{
-    match turned {
-        Turned::Went => Some(thread),
-        Turned::Ended(_) => Some(thread),
-        Turned::Blocked => None,
-        Turned::Unfit => None,
-        Turned::Broke(_, _) => None,
-    }
-}
-
-// A run that is about to begin: the globals and literals are there, and thread 0 is in main.
+    /// A run that is about to begin: the globals and literals are there, and thread 0 is in main.
     pub fn new(alloc: Global, typed: Typed) -> Result<SourceRun, NoMemory>
         ensures program { IfOk result (λ run. (running_of run).typed ≡ typed_view typed) }
         ensures state { IfOk result (λ run. (running_of run).state ≡ first_state (program (typed_view typed)) (start (typed_view typed))) }

@@ -1,12 +1,11 @@
 //! What an action touches.
 
-ghost use Rattle.std.specs.Prelude.{◌≡◌, ◌++◌, ◌×◌, ℕ, Bool, true, IfOk, IfSome, OnOk, map};
-ghost use Rattle.block_store.specs.Actions as actions;
-ghost use Rattle.block_store.specs.Actions.{bytes_at, reading_part, reading_parts};
-ghost use Rattle.block_store.specs.declared.values.Answer.{Answer};
-ghost use Rattle.c_meaning.specs.Touches.{each, of_thread, read_kind, renewal, starting, touches_of, whole_block, write_kind};
+ghost use Rattle.std.specs.Prelude.{◌≡◌, ◌×◌, ◌+◌, ◌++◌, Bool, true, IfOk, IfSome, OnOk, length, map};
+ghost use Rattle.block_store.specs.Actions.{bytes_at, reading_parts, writing};
+ghost use Rattle.c_meaning.specs.Touches.{each, of_thread, read_kind, renewal, starting, whole_block, write_kind};
+ghost use Rattle.race_rules.specs.declared.touch.TouchKind.TheVariants as kinds;
 ghost use Rattle.source_state.specs.Worlds.{action_of, printed_of, world_of};
-ghost use Rattle.block_meaning.specs.inner.Touches.{GainsOnly, before_its_end, end_of};
+ghost use Rattle.block_meaning.specs.inner.Touches.{GainsOnly, ReadsPart, before_its_end, comparing_of, end_of, says_equal};
 
 use ak_words::NoMemory;
 use block_store::{Answer, Ptr, Value};
@@ -132,7 +131,7 @@ impl Gathered {
 
     // The thread of this number is joined.
     fn joining(&mut self, number: u128, to: Ptr) -> Result<(), NoMemory>
-        ensures { OnOk result (GainsOnly self.old self.new (each self.old.place Write (writing 4 to) ++ of_thread self.old.place (Join number) ∷ [])) }
+        ensures { OnOk result (GainsOnly self.old self.new (each self.old.place kinds.Write (writing 4 to) ++ of_thread self.old.place (kinds.Join number) ∷ [])) }
     {
         self.bytes(TouchKind::Write, to, 4)?;
         if number > u32::MAX as u128 {
@@ -144,7 +143,7 @@ impl Gathered {
 
     // Texts are read.
     fn print(&mut self, world: &World, parts: &[Printed]) -> Result<(), NoMemory>
-        ensures { OnOk result (GainsOnly self.old self.new (each self.old.place Read (reading_parts (world_of world.now).blocks (map printed_of parts.now)))) }
+        ensures { OnOk result (GainsOnly self.old self.new (each self.old.place kinds.Read (reading_parts (world_of world.now).blocks (map printed_of parts.now)))) }
     {
         'parts: for part in parts {
             self.part(world, part)?;
@@ -261,16 +260,33 @@ pub fn comparing(action: &SharedAction) -> Option<Comparing>
     }
 }
 
-/// All touches of what was done, which gave this value: a compare writes the object where that is 1, and else the wanted number.
-/// None where one can't be told.
-pub fn finish(g: Gathered, c: Option<Comparing>, v: Option<Value>) -> Result<Option<Touches>, NoMemory>
-    ensures { IfOk result (λ o. IfSome o (λ t. (w next : actions.World) (thread : ℕ) (answer : Answer) (atomic : Bool) (action : SharedAction) → c ≡ comparing_of action → (g.fits ≡ true → g.touches.items ≡ before_its_end g.place w answer atomic (action_of action)) → actions.acted w thread answer (action_of action) ≡ actions.went v next → t.items ≡ touches_of g.place w answer atomic (action_of action))) }
+// Whether the value of a compare says that the numbers were equal.
+fn says_equal(v: Option<Value>) -> bool
+    ensures { result ≡ says_equal v }
+{
+    match v {
+        Some(Value::Num(n)) => n.value == 1,
+        Some(Value::Pointer(_)) => false,
+        None => false,
+    }
+}
+
+/// All touches of what was done, which gave this value: a compare writes the object where the numbers were equal, and else the wanted
+/// number. None where one can't be told.
+pub fn finish(
+    g: Gathered,
+    c: Option<Comparing>,
+    v: Option<Value>,
+) -> Result<Option<Touches>, NoMemory>
+    ensures { IfOk result (λ o. IfSome o (λ t. (g.fits ≡ true) × (t.items ≡ g.touches.items ++ end_of g.place c v))) }
 {
     let mut g = g;
     if let Some(c) = c {
-        let (kind, at) = match v {
-            Some(Value::Num(Num { value: 1, .. })) => (TouchKind::AtomicWrite, c.at),
-            _ => (TouchKind::Write, c.want),
+        let equal = says_equal(v);
+        let (kind, at) = if equal {
+            (TouchKind::AtomicWrite, c.at)
+        } else {
+            (TouchKind::Write, c.want)
         };
         g.bytes(kind, at, u128::from(c.bytes))?;
     }
