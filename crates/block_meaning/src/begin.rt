@@ -11,9 +11,9 @@ ghost use Rattle.source_state.specs.Views.{todo_of};
 ghost use Rattle.block_meaning.specs.Threads.{control_of};
 
 use crate::thread::{At, Own};
+use crate::touch_list::Touches;
 use ak_words::NoMemory;
 use block_store::{Ptr, Value};
-use smallvec::SmallVec;
 use source_state::control::Todo;
 use source_state::{Locals, Variable};
 use source_tree::tree::{SharedFunc, SharedProgram};
@@ -92,7 +92,7 @@ fn begun_nowhere(alloc: Global, function: u32) -> Result<Own, NoMemory>
         locals: Locals::new(alloc, Vec::new(alloc)),
         at: At::Begins(leaves),
         callers: Vec::new(alloc),
-        touched: SmallVec::new(alloc),
+        touched: Touches::None,
     })
 }
 
@@ -108,7 +108,7 @@ fn begun_in(alloc: Global, f: &SharedFunc, function: u32, argument: Ptr) -> Resu
         locals: Locals::new(alloc, locals),
         at: At::Begins(body),
         callers: Vec::new(alloc),
-        touched: SmallVec::new(alloc),
+        touched: Touches::None,
     })
 }
 

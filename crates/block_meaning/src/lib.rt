@@ -10,6 +10,7 @@ mod perform;
 mod running;
 mod taking;
 mod thread;
+mod touch_list;
 mod touches;
 mod turn;
 

@@ -17,7 +17,8 @@ ghost use Rattle.block_meaning.specs.inner.Turns.{turn_of, rest_of, ends_in, IsT
 
 use crate::begin::{first_locals, whole_body};
 use crate::thread::{At, Caller, Outcome, Own};
-use crate::touches::{comparing, finish, gather};
+use crate::touch_list::Touches;
+use crate::touches::{compare_of, finish, gather};
 use ak_words::{NoMemory, Num};
 use block_store::{Answer, Value};
 use c_tree::typed::Lib;
@@ -140,7 +141,7 @@ fn act(
     ensures untouched { IfOk result (λ o. Untouched o own.old own.new world.old world.new) }
 {
     let gathered = gather(alloc, world, answer, site, &action)?;
-    let compared = comparing(&action);
+    let compared = compare_of(&action);
     match world.act(alloc, thread, answer, action)? {
         Done::Went(v) => {
             let Some(touched) = finish(gathered, compared, v)? else {
@@ -216,7 +217,7 @@ fn enter_in(
     wait(&mut own.callers, caller)?;
     own.function = number;
     own.at = At::Begins(body);
-    own.touched.clear();
+    own.touched = Touches::None;
     Ok(())
 }
 
@@ -239,7 +240,7 @@ fn end_round(
         Answer::None => Outcome::Unfit,
         Answer::Plain => {
             own.at = At::Round(l, k);
-            own.touched.clear();
+            own.touched = Touches::None;
             Outcome::Went
         }
     }
@@ -325,7 +326,7 @@ fn go_back(
             own.locals = locals;
             let at = after_call(wait, value);
             own.at = at;
-            own.touched.clear();
+            own.touched = Touches::None;
             Ok(Outcome::Went)
         }
     }

@@ -71,7 +71,8 @@ impl SourceRun {
         ensures touched { IfOk result (λ run. (running_of run).touched ≡ []) }
     {
         let program = share(alloc, typed)?;
-        begin(alloc, program)
+        let run = begin(alloc, program)?;
+        Ok(run)
     }
 
     /// Another run of the same program, which is about to begin.
@@ -92,7 +93,8 @@ impl SourceRun {
             last: _,
             out_of_memory: _,
         } = self;
-        begin(alloc, program)
+        let run = begin(alloc, program)?;
+        Ok(run)
     }
 
     /// What was printed.

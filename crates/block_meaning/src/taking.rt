@@ -67,7 +67,7 @@ pub fn touched_in(threads: &[Option<Own>], thread: u32) -> &[Touch]
     ensures { result.now ≡ touched_by_own (runs.own_at (owns_of threads.now) thread) }
 {
     match threads.get(thread as usize) {
-        Some(Some(own)) => own.touched.as_slice(),
+        Some(Some(own)) => own.touched.all(),
         Some(None) => &[],
         None => &[],
     }

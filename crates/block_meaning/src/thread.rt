@@ -1,4 +1,4 @@
-use crate::touches::Touches;
+use crate::touch_list::Touches;
 use ak_words::Rule;
 use block_store::Value;
 use source_state::Locals;

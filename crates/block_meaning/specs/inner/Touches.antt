@@ -16,12 +16,13 @@ use Rattle.block_meaning.specs.declared.running.Turned.{Turned}
 use Rattle.block_meaning.specs.declared.running.Turned.TheVariants as turneds
 use Rattle.block_meaning.specs.declared.touches.Comparing.{Comparing}
 use Rattle.block_meaning.specs.declared.touches.Gathered.{Gathered}
+use Rattle.block_meaning.specs.Threads.{touches_in}
 
 -- these touches are gathered too, unless one can't be told
 pub record GainsOnly (old new : Gathered) (more : List Touch) : Type 0 where
   pub place : new.place ≡ old.place
   pub fits : new.fits ≡ true → old.fits ≡ true
-  pub gained : new.fits ≡ true → new.touches.items ≡ old.touches.items ++ more
+  pub gained : new.fits ≡ true → touches_in new.touches ≡ touches_in old.touches ++ more
 
 -- what is read of this part is gathered too, and the part breaks no rule, unless a touch can't be told
 pub record ReadsPart (old new : Gathered) (blocks : Blocks) (part : actions.Printed) : Type 0 where
