@@ -1,5 +1,5 @@
 -- What ends a turn, carried out.
-use Rattle.std.proofs.Common.{◌≡◌, ℕ, List, [], ◌∷◌, map, Option, Some, None, refl, sym, ap, subst, ◌∙◌, ℤ}
+use Rattle.std.proofs.Common.{◌≡◌, ℕ, true, List, [], ◌∷◌, ◌++◌, map, Option, Some, None, refl, sym, ap, subst, ◌∙◌, ℤ}
 use Rattle.std.proofs.lemmas.Option.{slice_get-map}
 use Rattle.std.specs.Global.{Global}
 use Rattle.std.specs.declared.rc.Rc.{Rc}
@@ -38,7 +38,12 @@ use Rattle.source_expressions.specs.Ends.{here_at, point_of}
 use Rattle.block_meaning.specs.declared.thread.Own.{Own}
 use Rattle.block_meaning.specs.declared.thread.Outcome.{Outcome}
 use Rattle.block_meaning.specs.declared.thread.Outcome.TheVariants as outcomes
-use Rattle.block_meaning.specs.Threads.{callers_of}
+use Rattle.block_meaning.specs.Threads.{callers_of, touches_in}
+use Rattle.block_meaning.specs.declared.touch_list.Touches.{Touches}
+use Rattle.block_meaning.specs.declared.touches.Comparing.{Comparing}
+use Rattle.block_meaning.specs.declared.touches.Gathered.{Gathered}
+use Rattle.block_meaning.specs.inner.Touches.{before_its_end, comparing_of, end_of}
+use Rattle.block_meaning.proofs.Touching.{touched_whole}
 use Rattle.block_meaning.specs.inner.Turns.{rest_of, turn_of, ends_in, Untouched, IsTurned}
 
 -- ---- an action
@@ -61,6 +66,18 @@ act_went p thread answer site action next own w new d v at touched done is_went 
     ap (λ (x : control.TurnStart). went (record { function = own.function; locals = own.locals.now; point = x; callers = callers_of own.callers; touched = touched }) (world_of new)) pt
     ∙ ap (λ (l : List Touch). went (record { function = own.function; locals = own.locals.now; point = point_of next v; callers = callers_of own.callers; touched = l }) (world_of new)) so
     ∙ comes_to p thread answer site action next own w new d (dones.Went v) done is_went
+
+-- what was gathered is what the action touches
+pub touched_as : (site : Site) (thread : ℕ) (answer : Answer) (action : SharedAction) (w new : World) (g : Gathered) (c : Option Comparing) (d : Done) (v : Option Value) (all : Touches)
+    → g.place ≡ site.place → (g.fits ≡ true → touches_in g.touches ≡ before_its_end site.place (world_of w) answer site.atomic (action_of action)) → c ≡ comparing_of action
+    → done_of d (world_of new) ≡ actions.acted (world_of w) thread answer (action_of action) → d ≡ dones.Went v → g.fits ≡ true → touches_in all ≡ touches_in g.touches ++ end_of g.place c v
+    → touches_in all ≡ touched_in site answer action w
+touched_as site thread answer action w new g c d v all place before is done went_is fits whole =
+    whole
+    ∙ ap (λ (l : List Touch). l ++ end_of g.place c v) (before fits)
+    ∙ ap (λ (n : ℕ). before_its_end site.place (world_of w) answer site.atomic (action_of action) ++ end_of n c v) place
+    ∙ ap (λ (o : Option Comparing). before_its_end site.place (world_of w) answer site.atomic (action_of action) ++ end_of site.place o v) is
+    ∙ touched_whole site.place (world_of w) (world_of new) thread answer site.atomic action v (sym done ∙ ap (λ (e : Done). done_of e (world_of new)) went_is)
 
 pub act_blocked : (p : SharedProgram) (thread : ℕ) (answer : Answer) (site : Site) (action : SharedAction) (next : Then) (own own' : Own) (w new : World) (d : Done)
     → done_of d (world_of new) ≡ actions.acted (world_of w) thread answer (action_of action) → d ≡ dones.Blocked

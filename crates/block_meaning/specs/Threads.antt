@@ -31,7 +31,6 @@ callers_of v = map caller_of (reverse v.items)
 abbrev pub touches_in : Touches → List Touch
 touches_in lists.None = []
 touches_in (lists.One all) = all
-touches_in (lists.Two all) = all
 touches_in (lists.More all) = all.items
 
 -- what a thread has of its own

@@ -144,9 +144,7 @@ fn act(
     let compared = compare_of(&action);
     match world.act(alloc, thread, answer, action)? {
         Done::Went(v) => {
-            let Some(touched) = finish(gathered, compared, v)? else {
-                return Err(NoMemory);
-            };
+            let touched = finish(gathered, compared, v)?;
             let at = after_action(alloc, then, v)?;
             own.at = at;
             own.touched = touched;

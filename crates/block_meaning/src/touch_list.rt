@@ -1,4 +1,4 @@
-//! Touches in order, of which up to two need no memory.
+//! Touches in order, of which one needs no memory.
 
 ghost use Rattle.std.specs.Prelude.{◌≡◌, ◌++◌, ◌∷◌, [], IfOk, OnOk};
 ghost use Rattle.block_meaning.specs.Threads.{touches_in};
@@ -7,15 +7,13 @@ use ak_words::NoMemory;
 use race_rules::Touch;
 use std::alloc::Global;
 
-/// What a turn touched, in order: few turns touch more than two times.
+/// What a turn touched, in order: most turns touch once.
 #[derive(Drop)]
 pub enum Touches {
     /// Nothing.
     None,
     /// Once.
     One([Touch; 1]),
-    /// Twice.
-    Two([Touch; 2]),
     /// More often.
     More(Vec<Touch>),
 }
@@ -31,13 +29,7 @@ impl Touches {
                 Ok(())
             }
             Touches::One(all) => {
-                let [first] = *all;
-                *self = Touches::Two([first, touch]);
-                Ok(())
-            }
-            Touches::Two(all) => {
-                let [first, second] = *all;
-                let more = three(alloc, first, second, touch)?;
+                let more = with(alloc, all, touch)?;
                 *self = Touches::More(more);
                 Ok(())
             }
@@ -55,19 +47,17 @@ impl Touches {
         match self {
             Touches::None => &[],
             Touches::One(all) => all,
-            Touches::Two(all) => all,
             Touches::More(all) => all,
         }
     }
 }
 
-// Three touches.
-fn three(alloc: Global, first: Touch, second: Touch, third: Touch) -> Result<Vec<Touch>, NoMemory>
-    ensures { IfOk result (λ v. v.items ≡ first ∷ second ∷ third ∷ []) }
+// Touches, and one more.
+fn with(alloc: Global, before: &[Touch], touch: Touch) -> Result<Vec<Touch>, NoMemory>
+    ensures { IfOk result (λ all. all.items ≡ before.now ++ touch ∷ []) }
 {
     let mut all = Vec::with_capacity(alloc, 4)?;
-    all.push(first)?;
-    all.push(second)?;
-    all.push(third)?;
+    all.extend_from_slice(before)?;
+    all.push(touch)?;
     Ok(all)
 }

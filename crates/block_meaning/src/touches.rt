@@ -1,6 +1,6 @@
 //! What an action touches.
 
-ghost use Rattle.std.specs.Prelude.{◌≡◌, ◌+◌, ◌++◌, Bool, true, IfOk, IfSome, OnOk, length, map};
+ghost use Rattle.std.specs.Prelude.{◌≡◌, ◌+◌, ◌++◌, Bool, true, Some, IfOk, IfSome, OnOk, length, map};
 ghost use Rattle.block_store.specs.Actions.{bytes_at, reading_parts, writing};
 ghost use Rattle.c_meaning.specs.Touches.{each, of_thread, read_kind, renewal, starting, whole_block, write_kind};
 ghost use Rattle.race_rules.specs.declared.touch.TouchKind.TheVariants as kinds;
@@ -196,13 +196,13 @@ impl Gathered {
         ensures { OnOk result (GainsOnly self.old self.new (each self.old.place kinds.Read (reading_parts (world_of world.now).blocks (map printed_of parts.now)))) }
     {
         'parts: for part in parts {
-            self.part(world, part)?;
+            self.read_part(world, part)?;
         }
         Ok(())
     }
 
     // A part of what is printed is read; a text with the zero byte that ends it.
-    fn part(&mut self, world: &World, part: &Printed) -> Result<(), NoMemory>
+    fn read_part(&mut self, world: &World, part: &Printed) -> Result<(), NoMemory>
         ensures { OnOk result (ReadsPart self.old self.new (world_of world.now).blocks (printed_of part.now)) }
     {
         match part {
@@ -256,6 +256,33 @@ impl Gathered {
             SharedAction::Start(to, _, _) => self.starting(world, answer, *to),
             SharedAction::Join(number, to) => self.joining(*number, *to),
             SharedAction::Finish(_) => Ok(()),
+        }
+    }
+
+    // What a compare touches at its end, where the action was one, by the value that it gave.
+    fn end(&mut self, c: Option<Comparing>, v: Option<Value>) -> Result<(), NoMemory>
+        ensures { OnOk result (GainsOnly self.old self.new (end_of self.old.place c v)) }
+    {
+        match c {
+            None => Ok(()),
+            Some(c) => {
+                self.compared(c, v)?;
+                Ok(())
+            }
+        }
+    }
+
+    // A compare writes its object where the numbers were equal, and else the wanted number.
+    fn compared(&mut self, c: Comparing, v: Option<Value>) -> Result<(), NoMemory>
+        ensures { OnOk result (GainsOnly self.old self.new (end_of self.old.place (Some c) v)) }
+    {
+        let equal = says_equal(v);
+        if equal {
+            self.bytes(TouchKind::AtomicWrite, c.at, u128::from(c.bytes))?;
+            Ok(())
+        } else {
+            self.bytes(TouchKind::Write, c.want, u128::from(c.bytes))?;
+            Ok(())
         }
     }
 }
@@ -332,24 +359,12 @@ fn says_equal(v: Option<Value>) -> bool
     }
 }
 
-/// All touches of what was done, which gave this value: a compare writes the object where the numbers were equal, and else the wanted
-/// number. None where one can't be told.
-pub fn finish(
-    g: Gathered,
-    c: Option<Comparing>,
-    v: Option<Value>,
-) -> Result<Option<Touches>, NoMemory>
-    ensures { IfOk result (λ o. IfSome o (λ t. (g.fits ≡ true) × (touches_in t ≡ touches_in g.touches ++ end_of g.place c v))) }
+/// All touches of what was done, which gave this value. One that can't be told is answered as want of memory.
+pub fn finish(g: Gathered, c: Option<Comparing>, v: Option<Value>) -> Result<Touches, NoMemory>
+    ensures fits { OnOk result (g.fits ≡ true) }
+    ensures touches { IfOk result (λ all. touches_in all ≡ touches_in g.touches ++ end_of g.place c v) }
 {
     let mut g = g;
-    if let Some(c) = c {
-        let equal = says_equal(v);
-        let (kind, at) = if equal {
-            (TouchKind::AtomicWrite, c.at)
-        } else {
-            (TouchKind::Write, c.want)
-        };
-        g.bytes(kind, at, u128::from(c.bytes))?;
-    }
-    if g.fits { Ok(Some(g.touches)) } else { Ok(None) }
+    g.end(c, v)?;
+    if g.fits { Ok(g.touches) } else { Err(NoMemory) }
 }
