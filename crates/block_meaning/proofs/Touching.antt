@@ -56,9 +56,8 @@ touched_whole place w next thread answer atomic (acts.Reallocate at size) v e = 
 touched_whole place w next thread answer atomic (acts.Free at) v e = append-nil _
 touched_whole place w next thread answer atomic (acts.Change at how by) v e = append-nil _
 touched_whole place w next thread answers.Plain atomic (acts.Compare at want new) v e =
-    append_assoc (each place AtomicRead (reading (new.ty.bits / 8) at)) (each place Read (reading (new.ty.bits / 8) want)) (end_of place (comparing_of (acts.Compare at want new)) v)
-    ∙ ap (λ (l : List Touch). each place AtomicRead (reading (new.ty.bits / 8) at) ++ (each place Read (reading (new.ty.bits / 8) want) ++ l))
-        (sym (compare_end place at want new.ty _ w next (compared w.blocks at want new.ty new.value) v e))
+    ap (λ (l : List Touch). (each place AtomicRead (reading (new.ty.bits / 8) at) ++ each place Read (reading (new.ty.bits / 8) want)) ++ l)
+    (sym (compare_end place at want new.ty _ w next (compared w.blocks at want new.ty new.value) v e))
 touched_whole place w next thread answers.Got atomic (acts.Compare at want new) v e = cc
 touched_whole place w next thread answers.None atomic (acts.Compare at want new) v e = cc
 touched_whole place w next thread answer atomic (acts.Print all) v e = append-nil _
@@ -181,4 +180,4 @@ part_behind blocks place old all i part e below is ok =
     ∙ ap (of_parts blocks place) (next_part all i part below is)
 
 pub no_part : (blocks : Blocks) (place : ℕ) (all : List Printed) (i : ℕ) → length all ≤ i → of_parts blocks place (drop i all) ≡ []
-no_part blocks place all i h = ap (of_parts blocks place) (drop_all h)
+no_part blocks place all i h = ap (of_parts blocks place) (drop_all i all h)
