@@ -72,13 +72,16 @@ impl Gathered {
                 Ok(())
             }
             Some(to) => {
-                self.touches.push(self.alloc, Touch {
-                    kind,
-                    block,
-                    from: offset,
-                    to,
-                    place: self.place,
-                })?;
+                self.touches.push(
+                    self.alloc,
+                    Touch {
+                        kind,
+                        block,
+                        from: offset,
+                        to,
+                        place: self.place,
+                    },
+                )?;
                 Ok(())
             }
         }
@@ -133,13 +136,16 @@ impl Gathered {
     fn of_thread(&mut self, kind: TouchKind) -> Result<(), NoMemory>
         ensures { OnOk result (GainsOnly self.old self.new (of_thread self.old.place kind ∷ [])) }
     {
-        self.touches.push(self.alloc, Touch {
-            kind,
-            block: 0,
-            from: 0,
-            to: 0,
-            place: self.place,
-        })?;
+        self.touches.push(
+            self.alloc,
+            Touch {
+                kind,
+                block: 0,
+                from: 0,
+                to: 0,
+                place: self.place,
+            },
+        )?;
         Ok(())
     }
 
@@ -231,7 +237,11 @@ impl Gathered {
         ensures { OnOk result (GainsOnly self.old self.new (before_its_end self.old.place (world_of world.now) answer atomic (action_of action.now))) }
     {
         match action {
-            SharedAction::Load(at, how) => self.bytes(read_kind(atomic), *at, u128::from(how.size())),
+            SharedAction::Load(at, how) => self.bytes(
+                read_kind(atomic),
+                *at,
+                u128::from(how.size()),
+            ),
             SharedAction::Store(at, v) => {
                 self.bytes(write_kind(atomic), *at, u128::from(v.access().size()))
             }
@@ -243,7 +253,13 @@ impl Gathered {
             SharedAction::Free(at) => self.whole_block(TouchKind::Write, world, *at),
             SharedAction::Change(at, _, by) => {
                 let bytes = u128::from(by.ty.bits / 8);
-                self.two(TouchKind::AtomicRead, *at, TouchKind::AtomicWrite, *at, bytes)
+                self.two(
+                    TouchKind::AtomicRead,
+                    *at,
+                    TouchKind::AtomicWrite,
+                    *at,
+                    bytes,
+                )
             }
             SharedAction::Compare(at, want, new) => {
                 let bytes = u128::from(new.ty.bits / 8);
