@@ -172,7 +172,7 @@ own_put (x ∷ own) (suc i) new more h = own_put own i new more h
 picked_runs : {A : Type 0} (P : Program A) (s : State A) (p : Pick) (main own : Option A) → IsSome (turn_if P s p main own) → IsSome own
 picked_runs P s p None own h = absurd cc
 picked_runs P s p (Some main) None h = absurd cc
-picked_runs P s p (Some main) (Some own) h = tt
+picked_runs P s p (Some main) (Some own) h = refl
 
 -- the end of a thread is done
 end_done : (is_main : Bool) (value : Option ℤ) (thread : ℕ) (turned : Turned) → ended_by is_main value ≡ Some turned → done_by turned thread ≡ Some thread
