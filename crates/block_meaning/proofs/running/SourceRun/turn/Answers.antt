@@ -14,4 +14,4 @@ returns-in-Ok-clause-stays c = as_before (program_of c.args.self.now.program) (s
 pub returns-in-Ok-clause-touched : goal.returns-in-Ok-clause-touched
 returns-in-Ok-clause-touched c =
     touched_then (program_of c.args.self.now.program) (state_in c.args.self.now.threads.items c.args.self.now.world) (state_in c.take.new.threads.items c.take.new.world) (record { thread = c.args.thread; answer = c.args.answer }) _ _
-    c.requires c.in-Ok.ensures.answer c.in-Ok.ensures.state c.done_by.ensures
+    c.requires c.in-Ok.ensures.answer c.in-Ok.ensures.state c.done_by-self.ensures
