@@ -5,6 +5,7 @@
 
 mod carrying;
 mod gate;
+mod idling;
 mod running;
 mod working;
 

@@ -5,8 +5,8 @@ ghost use Rattle.ak_crew.specs.Overs.{FoundOver};
 
 use crate::carrying::carry;
 use crate::gate::{Gate, Point};
+use crate::idling::Idling;
 use ak_world::{Found, SharedWorld, World};
-use crossbeam_utils::Backoff;
 use flat_rules::Flat;
 use std::sync::Wait;
 use turn_lock::Pass;
@@ -25,16 +25,16 @@ pub(crate) fn work<F: Flat<Code, Context> + Drop, Code: Drop, Context: Drop, R: 
     ensures over { FoundOver F.machine F.shared_of F.context_of world.now.lock pass.new }
 {
     let worker = pass.worker();
-    let backoff = Backoff::new();
+    let mut idling = Idling::new();
     for _ in rt.forever() {
         gate.pause(worker, Point::Find);
         match world.find(rt, pass) {
             Found::Work(ctx) => {
                 carry(rt, code, world, pass, gate, ctx);
-                backoff.reset();
+                idling.reset();
             }
-            Found::Nothing => backoff.snooze(),
-            Found::Swept => backoff.reset(),
+            Found::Nothing => idling.wait(rt),
+            Found::Swept => idling.reset(),
             Found::Over(_) => return,
         }
     }

@@ -1,6 +1,6 @@
 -- A value goes to a local or to an object.
 use Rattle.lower_turns.proofs.Operands.{computed_taken}
-use Rattle.std.proofs.Common.{◌≡◌, Bool, ◌≢◌, ℕ, suc, ◌<◌, ◌^◌, ◌⊎◌, inl, inr, ℤ, pos, true, List, [], ◌∷◌, set, Option, Some, None, Result, Ok, Err, refl, sym, ap, subst, ◌∙◌, arith, unsigned_abs}
+use Rattle.std.proofs.Common.{◌≡◌, Bool, ◌≢◌, ℕ, suc, ◌<◌, ◌^◌, ◌⊎◌, inl, inr, ℤ, pos, true, false, List, [], ◌∷◌, set, Option, Some, None, Result, Ok, Err, refl, sym, ap, subst, ◌∙◌, arith, unsigned_abs}
 use Rattle.std.specs.Prelude.{slice_get}
 use Rattle.ak_words.specs.declared.int_type.IntType.{IntType}
 use Rattle.ak_words.specs.declared.number.Num.{Num}

@@ -1,5 +1,5 @@
 -- How an assignment goes on behind a part that has its value.
-use Rattle.std.proofs.Common.{◌≡◌, ◌∙◌, ℕ, Bool, true, false, List, set, refl, ap, sym, subst}
+use Rattle.std.proofs.Common.{◌≡◌, ◌∙◌, ℕ, Bool, true, false, List, length, set, refl, ap, sym, subst}
 use Rattle.std.specs.Prelude.{if◌then◌else◌}
 use Rattle.block_store.specs.declared.values.Ptr.TheVariants.{To}
 use Rattle.block_store.specs.declared.values.Value.{Value}
@@ -85,14 +85,15 @@ whole_exit p function locals blocks b e right after g to place ty k left flow sa
     (λ h w n. ap (control.struct_left place ty right) n ∙ sym named)
     (λ r w x n. assigned.goes r w x n)
 
-pub scalar_exit : (p : SharedProgram) (function : ℕ) (locals : List control.Variable) (blocks b : Blocks) (e right : tree.Expr) (after : control.Use) (g : Progress) (to : Value) (place : ℕ) (atomic : Bool) (k : control.Todo) (left : Exit)
-    → FlowsPlace p locals b e after g → b ≡ blocks → g ≡ flows.Gives to → after ≡ control.left_place place atomic right k
+pub scalar_exit : (p : SharedProgram) (function : ℕ) (locals : List control.Variable) (blocks b : Blocks) (e right : tree.Expr) (after : control.Use) (g : Progress) (to : Value) (place : ℕ) (atomic known : Bool) (k : control.Todo) (left : Exit)
+    → FlowsPlace p locals b e after g → b ≡ blocks → g ≡ flows.Gives to → after ≡ control.left_place place atomic right k → atomic ≡ known
     → ExitsAs (λ h w. run h right (place_way h place atomic to w)) p function k locals blocks locals blocks left
-    → ExitsAs (λ h w. run_place h e (left_way h place atomic right w)) p function k locals blocks locals blocks left
-scalar_exit p function locals blocks b e right after g to place atomic k left flow same_blocks is_to named assigned =
-    finds_exit p function locals blocks b e e after g to (λ h w. left_way h place atomic right w) k locals blocks left flow same_blocks refl is_to
+    → ExitsAs (λ h w. run_place h e (left_way h place known right w)) p function k locals blocks locals blocks left
+scalar_exit p function locals blocks b e right after g to place atomic known k left flow same_blocks is_to named is_known assigned =
+    subst (λ (mark : Bool). ExitsAs (λ h w. run_place h e (left_way h place mark right w)) p function k locals blocks locals blocks left) is_known
+    (finds_exit p function locals blocks b e e after g to (λ h w. left_way h place atomic right w) k locals blocks left flow same_blocks refl is_to
     (λ h w n. ap (control.left_place place atomic right) n ∙ sym named)
-    (λ r w x n. assigned.goes r w x n)
+    (λ r w x n. assigned.goes r w x n))
 
 pub struct_object : (p : SharedProgram) (function : ℕ) (locals : List control.Variable) (blocks : Blocks) (e right : tree.Expr) (k : control.Todo) (left : Exit)
     → is_struct (tree.type_of e) ≡ true
@@ -156,17 +157,18 @@ local_updated_exit p function locals blocks b e f after g by u t number k new_lo
 
 -- ---- declarations
 
-pub initialised_block : (p : SharedProgram) (function place number block : ℕ) (e : tree.Expr) (k : control.Todo) (locals : List control.Variable) (blocks : Blocks) (new_locals : List control.Variable) (new_blocks : Blocks) (left : Exit)
-    → is_block (local_in p function number) ≡ true
+pub initialised_block : (p : SharedProgram) (function place number block : ℕ) (atomic : Bool) (e : tree.Expr) (k : control.Todo) (locals : List control.Variable) (blocks : Blocks) (new_locals : List control.Variable) (new_blocks : Blocks) (left : Exit)
+    → is_block (local_in p function number) ≡ true → atomic ≡ is_atomic_local (local_in p function number)
     → Names block (ended_local number) locals blocks
     → ((r : Rest) → Comes (made_local (here_at p function r) number) locals blocks new_locals new_blocks)
-    → ExitsAs (λ h w. run h e (place_way h place (is_atomic_local (local_in p function number)) (values.Pointer (To block 0)) w)) p function k new_locals new_blocks new_locals new_blocks left
+    → ExitsAs (λ h w. run h e (place_way h place atomic (values.Pointer (To block 0)) w)) p function k new_locals new_blocks new_locals new_blocks left
     → ExitsAs (λ h w. initialises h place number e w) p function k locals blocks new_locals new_blocks left
-initialised_block p function place number block e k locals blocks new_locals new_blocks left i name made a = record {
+initialised_block p function place number block atomic e k locals blocks new_locals new_blocks left i is_known name made a = record {
   goes = λ r w x n.
       when_true (is_block (local_in p function number)) _ _ i
-      ∙ ap (λ (m : ℕ). run (here_at p function r) e (place_way (here_at p function r) place (is_atomic_local (local_in p function number)) (values.Pointer (To m 0)) w) (made_local (here_at p function r) number (now_in locals blocks x))) (sym (name.names x))
-      ∙ ap (run (here_at p function r) e (place_way (here_at p function r) place (is_atomic_local (local_in p function number)) (values.Pointer (To block 0)) w)) ((made r).goes x)
+      ∙ ap (λ (mark : Bool). run (here_at p function r) e (place_way (here_at p function r) place mark (values.Pointer (To (length (ended_local number (now_in locals blocks x)).world.blocks) 0)) w) (made_local (here_at p function r) number (now_in locals blocks x))) (sym is_known)
+      ∙ ap (λ (m : ℕ). run (here_at p function r) e (place_way (here_at p function r) place atomic (values.Pointer (To m 0)) w) (made_local (here_at p function r) number (now_in locals blocks x))) (sym (name.names x))
+      ∙ ap (run (here_at p function r) e (place_way (here_at p function r) place atomic (values.Pointer (To block 0)) w)) ((made r).goes x)
       ∙ a.goes r w x n;
 }
 

@@ -180,9 +180,7 @@ fn assign_scalar(
     let flow = place(left, alloc, program, locals, store.store(), &after)?;
     match flow {
         Progress::Ends(q) => Ok(Exit::Ends(q)),
-        Progress::Gives(to) => assign_place(
-            right, alloc, program, locals, store, site, to, k,
-        ),
+        Progress::Gives(to) => assign_place(right, alloc, program, locals, store, site, to, k),
     }
 }
 
@@ -284,11 +282,7 @@ fn read_object(
 {
     let after = behind_assignments::update_read(alloc, u, at, by, k)?;
     let action = SharedAction::Load(pointer_in(at), access_of_type(&u.ty));
-    Ok(Pending::Act(
-        Site::plain(u.place),
-        action,
-        Then::Gives(u.place, after),
-    ))
+    Ok(Pending::Act(Site::plain(u.place), action, Then::Gives(u.place, after)))
 }
 
 // a is changed by b.

@@ -1,5 +1,7 @@
 //! What is left to do, linked by shared parts.
 
+ghost use Rattle.std.specs.Prelude.{◌≡◌, false};
+
 use crate::SharedAction;
 use crate::operations::{Binary, Unary};
 use ak_words::{Op, Rule};

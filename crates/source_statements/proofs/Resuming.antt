@@ -19,6 +19,7 @@ use Rattle.source_state.specs.declared.control.Progress.{Progress}
 use Rattle.source_state.specs.declared.control.Progress.TheVariants as flows
 use Rattle.source_state.specs.declared.control.Pending.{Pending}
 use Rattle.source_state.specs.declared.control.Pending.TheVariants as pendings
+use Rattle.source_state.specs.declared.control.Site.{Site}
 use Rattle.source_expressions.specs.Ends.{here_at, ends}
 use Rattle.source_expressions.specs.Progress.{now_in, progress, done_with, Flows, FlowsSecond, FlowsTest, FlowsCall, Reads}
 use Rattle.source_assignments.specs.declared.exit.Exit.{Exit}
@@ -218,11 +219,11 @@ one_other p function at o s k locals blocks new_locals new_blocks g is_some a = 
 
 -- ---- a op= b
 
-pub update_stores : (p : SharedProgram) (blocks : Blocks) (u : control.Update) (at by v s : Value) (place : ℕ) (k : control.Todo) (q : Pending)
-    → updated (program_of p).structs blocks u.ty u.op v by ≡ Ok s → Stores place false at s k q → place ≡ u.place
+pub update_stores : (p : SharedProgram) (blocks : Blocks) (u : control.Update) (at by v s : Value) (site : Site) (k : control.Todo) (q : Pending)
+    → updated (program_of p).structs blocks u.ty u.op v by ≡ Ok s → Stores site.place site.atomic at s k q → site ≡ record { place = u.place; atomic = false }
     → StoresUpdated p blocks u at by v k q
-update_stores p blocks u at by v s place k q is_s stores same_place =
-    let at_place : Stores u.place false at s k q = subst (λ (n : ℕ). Stores n false at s k q) same_place stores in
+update_stores p blocks u at by v s site k q is_s stores same_site =
+    let at_place : Stores u.place false at s k q = subst (λ (named : Site). Stores named.place named.atomic at s k q) same_site stores in
     record { goes = λ function r w locals x n. ap (λ (t : Result Value Rule). on_ok u.operator (λ s. (place_way (here_at p function r) u.place false at w).go s (now_in locals blocks x)) t) is_s ∙ at_place.goes (here_at p function r) w (now_in locals blocks x) n }
 
 pub update_broke : (p : SharedProgram) (blocks : Blocks) (u : control.Update) (at by v : Value) (rule : Rule) (operator : ℕ) (k : control.Todo)

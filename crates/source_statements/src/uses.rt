@@ -25,7 +25,9 @@ use source_assignments::assignments::{
 };
 use source_expressions::expressions::{arguments, done, either, expr, read, second, second_test};
 use source_expressions::operations::{of_one, of_two};
-use source_state::control::{LoopParts, Pending, Progress, Site, Todo, Updating, Use, Values, Wait};
+use source_state::control::{
+    LoopParts, Pending, Progress, Site, Todo, Updating, Use, Values, Wait,
+};
 use source_state::frames::one_more;
 use source_state::operations::{Binary, Unary};
 use source_state::{KeptStore, Locals, Variable};

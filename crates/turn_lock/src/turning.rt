@@ -10,10 +10,26 @@ ghost use Rattle.turn_lock.specs.Locks.{first_of, seen_of, own_of, worker_of, Is
 use crate::board::{DRAWN, Draw, Leads, Leaves, Look, Place, SERVED, Serve};
 use crate::lock::{Pass, TurnLock};
 use crate::object::Object;
-use crossbeam_utils::Backoff;
 use std::marker::Brand;
 use std::snapshot::Snapshot;
 use std::sync::Wait;
+use std::{hint, thread};
+
+// The times that a worker whose ticket comes next looks again at once.
+const MOST_LOOKS: u32 = 4;
+
+// Waits between two looks at the ticket that is served, so many tickets before its own, and tells how often it looked again at once. A worker
+// whose ticket comes next spins a little at first; one whose turn is farther leaves the processor to those before it.
+fn wait_for(distance: u64, looks: u32) -> u32 {
+    if distance == 1 && looks < MOST_LOOKS {
+        for _ in 0..1u32 << looks {
+            hint::spin_loop();
+        }
+        return looks + 1;
+    }
+    thread::yield_now();
+    looks
+}
 
 impl<Call, Reply, O: Object<Call, Reply>> TurnLock<O, Call, Reply> {
     // Draws a ticket, waits until it is served, and takes the object out. The caller says what J is.
@@ -25,13 +41,13 @@ impl<Call, Reply, O: Object<Call, Reply>> TurnLock<O, Call, Reply> {
     {
         let table = &self.board.shared;
         let ticket = table.fetch_add::<Draw>(place, DRAWN, 1);
-        let backoff = Backoff::new();
+        let mut looks = 0;
         for _ in rt.forever() {
             let found = table.load::<Look<J>>(place, SERVED);
             if found == ticket {
                 return;
             }
-            backoff.snooze();
+            looks = wait_for(ticket.wrapping_sub(found), looks);
         }
         unreachable!()
     }

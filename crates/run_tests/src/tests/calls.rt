@@ -4,7 +4,7 @@ use ak_words::{NoMemory, Num};
 use block_store::{Ptr, Value};
 use c_tree::typed::{Lib, Piece};
 use source_expressions::{called, list_of};
-use source_state::control::{Pending, Todo, Values, Wait};
+use source_state::control::{Pending, Site, Todo, Values, Wait};
 use source_state::frames::one_more;
 use source_state::{Printed, SharedAction};
 use source_tree::tree::Callee;
@@ -49,7 +49,8 @@ fn printf_writes_its_numbers(rt: HostRuntime) -> Result<(), NoMemory> {
     let minus_one = Value::Num(Num::int(-1));
     let q = call_of_two(rt.alloc(), Lib::Print(pieces), minus_one, minus_one)?;
     let mut bytes = Vec::new(rt.alloc());
-    if let Pending::Act(7, SharedAction::Print(parts), _) = &q {
+    if let Pending::Act(site, SharedAction::Print(parts), _) = &q {
+        assert_eq!(rt; *site, Site::plain(7));
         for part in parts {
             if let Printed::Bytes(all) = part {
                 bytes.extend_from_slice(all)?;
@@ -57,6 +58,18 @@ fn printf_writes_its_numbers(rt: HostRuntime) -> Result<(), NoMemory> {
         }
     }
     assert_eq!(rt; bytes.as_slice(), b"-1 ffffffff".as_slice());
+    Ok(())
+}
+
+#[test]
+fn an_atomic_call_names_an_atomic_object(rt: HostRuntime) -> Result<(), NoMemory> {
+    let null = Value::Pointer(Ptr::Null);
+    let q = call_of_two(rt.alloc(), Lib::AtomicAdd, null, Value::Num(Num::int(1)))?;
+    let atomic = match &q {
+        Pending::Act(site, _, _) => site.atomic,
+        _ => false,
+    };
+    assert!(rt; atomic);
     Ok(())
 }
 

@@ -1,0 +1,4 @@
+pub mod Going
+pub mod Telling
+pub mod Along
+pub mod WorkedRows

@@ -1,0 +1,13 @@
+//! Laws and rows of the definitions, as contracts of functions that do nothing.
+ghost use Rattle.race_check.specs.Ends.{OneEndAlone};
+ghost use Rattle.race_check.specs.Rows.{EndsStand};
+
+/// A law: of an order of a program one end alone is told.
+pub fn one_end_alone()
+    ensures { OneEndAlone }
+{}
+
+/// Ends by hand: a race, one behind which a rule is broken, turns that a mutex orders, and a rule.
+pub fn ends_by_hand()
+    ensures { EndsStand }
+{}
