@@ -1,6 +1,6 @@
 //! Mode race: a run, and then its turns once more, in the order of its journal, by the source's meaning.
 
-ghost use Rattle.std.specs.Prelude.{◌≡◌, ◌+◌, ◌*◌, ◌≤◌, length, vec_len, vec_capacity, IfOk, IfSome, Some};
+ghost use Rattle.std.specs.Prelude.{◌≡◌, ◌+◌, ◌*◌, ◌≤◌, length, vec_capacity, IfOk, IfSome, Some};
 ghost use Rattle.c_tree.specs.TypedViews.{typed_view};
 ghost use Rattle.struct_ir.specs.LinearViews.{code_view};
 ghost use Rattle.pin_checker.specs.CheckedViews.{program_in};
@@ -98,7 +98,7 @@ fn find(alloc: Global, typed: Typed, journal: &Journal) -> Option<RaceEnd>
 // Judges a run that is over, and writes the line of what was found behind its report.
 fn judge(alloc: Global, typed: Typed, ran: Ran) -> Ran
     requires a_run { HasARun (typed_view typed) ran.journal.entries }
-    requires room { vec_len ran.line + (2 * length (name_in (Some ran.settings)) + 160) ≤ vec_capacity ran.line }
+    requires room { length ran.line.items + (2 * length (name_in (Some ran.settings)) + 160) ≤ vec_capacity ran.line }
     ensures { IsJudged (typed_view typed) ran result }
 {
     let Ran {

@@ -225,7 +225,7 @@ pub record HasRun (x : Opened) (r : Ran) : Type 0 where
   pub status : r.status ≡ status_of end
   pub output : r.output.items ≡ final.output
   pub line : r.line.items ≡ report_text x.settings.evacuate end final.report
-  pub short : vec_len r.line ≤ 1024
+  pub short : length r.line.items ≤ 1024
   pub room : vec_capacity r.line ≡ vec_capacity x.line
 
 -- the order of a journal has a run of the tree's program
