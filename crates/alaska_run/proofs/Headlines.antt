@@ -1,12 +1,16 @@
 -- The headline, of each course that a call takes.
-use Rattle.std.proofs.Common.{◌≡◌, ℕ, List, [], ◌++◌, Option, Some, None, refl, sym, ap, subst, ap₂, ◌∙◌, inl, inr, codes}
+use Rattle.std.proofs.Common.{◌≡◌, ◌≢◌, ◌⊎◌, ℕ, List, [], ◌++◌, Option, Some, None, refl, sym, ap, subst, ap₂, ◌∙◌, inl, inr, codes}
 use Rattle.std.proofs.lemmas.List.{append-nil}
 use Rattle.std.specs.Option.{option_map}
+use Rattle.std.specs.Prelude.{Vec}
+use Rattle.std.specs.Global.{Global}
 use Rattle.std.specs.Arc.{arc_value}
+use Rattle.ak_trace.specs.Log.{Log}
 use Rattle.ak_trace.specs.declared.entry.Entry.{Entry}
 use Rattle.c_tree.specs.Typed.{Typed}
+use Rattle.c_tree.specs.TypedViews.{typed_view}
 use Rattle.c_meaning.specs.Meaning.{program, start}
-use Rattle.alaska_run.specs.Built.{IsBuilt}
+use Rattle.alaska_run.specs.Built.{IsBuilt, IsTreeOf}
 use Rattle.struct_ir.specs.Nodes.{Ir}
 use Rattle.struct_ir.specs.Instrs.{LinearCode}
 use Rattle.struct_ir.specs.Erased.{ir_erased}
@@ -31,6 +35,9 @@ use Rattle.run_notes.specs.Checks.{check_line}
 use Rattle.run_notes.specs.declared.status.Status.{Status}
 use Rattle.run_notes.specs.declared.status.Status.TheVariants as statuses
 use Rattle.run_notes.specs.Statuses.{status_of}
+use Rattle.run_notes.specs.Races.{race_line, status_with}
+use Rattle.run_notes.specs.declared.races.RaceNote.{RaceNote}
+use Rattle.run_notes.specs.declared.races.RaceNote.TheVariants as notes
 use Rattle.run_notes.specs.Lines.{fault_line}
 use Rattle.run_notes.specs.Reports.{report_text}
 use Rattle.run_edges.specs.Files.{Shelved}
@@ -39,26 +46,28 @@ use Rattle.run_edges.specs.Writing.{Written, after_note_fault}
 use Rattle.alaska_run.specs.declared.checking.Worked.{Worked}
 use Rattle.alaska_run.specs.declared.preparing.Opened.{Opened}
 use Rattle.alaska_run.specs.declared.preparing.Stopped.{Stopped}
+use Rattle.alaska_run.specs.declared.racing.Racing.{Racing}
 use Rattle.alaska_run.specs.declared.running.Ran.{Ran}
 use Rattle.alaska_run.specs.Ending.{Ending}
 use Rattle.alaska_run.specs.Sources.{Source, source_in, name_in, IsAll}
 use Rattle.alaska_run.specs.Faults.{IsFault}
-use Rattle.alaska_run.specs.Modes.{IsCodeBy, SpeaksOf, IsTheEnd, IsAnswerBy, IsACheck, IsSavedAs, IsASave, IsWorkBy, IsWorkIn}
+use Rattle.alaska_run.specs.Races.{note_of}
+use Rattle.alaska_run.specs.Modes.{IsCodeBy, SpeaksOf, IsTheEnd, IsARace, IsAnswerBy, IsACheck, IsSavedAs, IsASave, IsWorkBy, IsWorkIn}
 use Rattle.alaska_run.specs.Headline.{Headline, IsOrUnwritten, IsTextOf, OfATree, OfARun, WithARun, depth}
-use Rattle.alaska_run.specs.inner.Courses.{IsStopped, IsOpened, IsFound, WorkedBy, IsWorked, HasRun}
+use Rattle.alaska_run.specs.inner.Courses.{IsStopped, IsOpened, IsToRun, IsToRace, IsFound, WorkedBy, IsWorked, HasRun, HasRaced}
 use Rattle.alaska_run.proofs.LoadedCode.{loaded_is_checked}
 
 -- ---- the rows of the modes
 
--- where code ran, its end is the answer
-answer_by : (mode : Mode) (text : List ℕ) (checked : Ir) (code : LinearCode) (e : Ending) (end : End) (judged : Status) (behind : List ℕ) → IsCodeBy mode text checked code → IsTheEnd end judged behind
+-- where code ran, and the run isn't judged, its end is the answer
+answer_by : (mode : Mode) (text : List ℕ) (checked : Ir) (code : LinearCode) (e : Ending) (end : End) (judged : Status) (behind : List ℕ) → mode ≢ Race → IsCodeBy mode text checked code → IsTheEnd end judged behind
     → IsAnswerBy mode e end judged behind
-answer_by Run text checked code e end judged behind by h = h
-answer_by Churn text checked code e end judged behind by h = h
-answer_by Load text checked code e end judged behind by h = h
-answer_by Check text checked code e end judged behind by h = absurd by
-answer_by Race text checked code e end judged behind by h = absurd by
-answer_by Build text checked code e end judged behind by h = absurd by
+answer_by Run text checked code e end judged behind n by h = h
+answer_by Churn text checked code e end judged behind n by h = h
+answer_by Load text checked code e end judged behind n by h = h
+answer_by Check text checked code e end judged behind n by h = absurd by
+answer_by Race text checked code e end judged behind n by h = absurd (n refl)
+answer_by Build text checked code e end judged behind n by h = absurd by
 
 -- the machine's code is that of the checked code
 record IsMachines (checked : Ir) (code : LinearCode) : Type 0 where
@@ -70,7 +79,7 @@ machines_by Run text checked code h = record { emitted = h.1.emitted; lawful = h
 machines_by Churn text checked code h = record { emitted = h.1.emitted; lawful = h.1.lawful }
 machines_by Load text checked code h = record { emitted = h.emitted; lawful = h.lawful }
 machines_by Check text checked code h = absurd h
-machines_by Race text checked code h = absurd h
+machines_by Race text checked code h = record { emitted = h.1.emitted; lawful = h.1.lawful }
 machines_by Build text checked code h = absurd h
 
 -- what is known of trees, of turns and of journals
@@ -88,7 +97,7 @@ checked_by laws Run text checked code h typed speaks keeps = h.1.sound
 checked_by laws Churn text checked code h typed speaks keeps = h.1.sound
 checked_by laws Load text checked code h typed speaks keeps = loaded_is_checked text checked code h typed speaks.1.well_formed keeps laws.erased laws.types laws.ends
 checked_by laws Check text checked code h typed speaks keeps = absurd h
-checked_by laws Race text checked code h typed speaks keeps = absurd h
+checked_by laws Race text checked code h typed speaks keeps = h.1.sound
 checked_by laws Build text checked code h typed speaks keeps = absurd h
 
 -- ---- what a sink's fault makes of a status
@@ -102,17 +111,27 @@ run_fault ends.TurnLimit = refl
 run_fault ends.OutputLimit = refl
 run_fault (ends.StackLimit thread) = refl
 
-judged_then : (judged status : Status) (output line : List ℕ) (out note : Channel) → after_note_fault judged ≡ statuses.WriteFault → Written judged status output line out note → IsOrUnwritten judged status
+-- or it leaves the status as it is, which it does to want of memory
+abbrev IsNoteFault : Status → Type 0
+IsNoteFault judged = (after_note_fault judged ≡ statuses.WriteFault) ⊎ (after_note_fault judged ≡ judged)
+
+judged_fault : (found : RaceNote) (end : End) → IsNoteFault (status_with found (status_of end))
+judged_fault notes.Clean end = inl (run_fault end)
+judged_fault (notes.Race first second) end = inl refl
+judged_fault (notes.Broke rule turns) end = inl (run_fault end)
+judged_fault notes.NotJudged end = inr refl
+
+judged_then : (judged status : Status) (output line : List ℕ) (out note : Channel) → IsNoteFault judged → Written judged status output line out note → IsOrUnwritten judged status
 judged_then judged status output line out note fault (inl w) = inl w.status_is
 judged_then judged status output line out note fault (inr (inl w)) = inr w.status_is
-judged_then judged status output line out note fault (inr (inr w)) = inr (w.status_is ∙ fault)
+judged_then judged status output line out note fault (inr (inr w)) = elim fault [ inl unwritten ↦ inr (w.status_is ∙ unwritten) | inr same ↦ inl (w.status_is ∙ same) ]
 
 -- a fault of reading stays one, or becomes a fault of writing
 unread_then : (judged status : Status) (output line : List ℕ) (out note : Channel) → Written judged status output line out note → IsOrUnwritten statuses.ReadFault judged → IsOrUnwritten statuses.ReadFault status
 unread_then judged status output line out note w (inl h) =
-    judged_then statuses.ReadFault status output line out note refl (subst (λ (z : Status). Written z status output line out note) h w)
+    judged_then statuses.ReadFault status output line out note (inl refl) (subst (λ (z : Status). Written z status output line out note) h w)
 unread_then judged status output line out note w (inr h) =
-    elim (judged_then statuses.WriteFault status output line out note refl (subst (λ (z : Status). Written z status output line out note) h w)) [ inl a ↦ inr a | inr a ↦ inr a ]
+    elim (judged_then statuses.WriteFault status output line out note (inl refl) (subst (λ (z : Status). Written z status output line out note) h w)) [ inl a ↦ inr a | inr a ↦ inr a ]
 
 -- so what a text is stays so
 text_then : (source : Source) (text : List ℕ) (judged status : Status) (output line : List ℕ) (out note : Channel) → Written judged status output line out note → IsTextOf source text judged → IsTextOf source text status
@@ -130,7 +149,8 @@ memory_then status line out note (inr (inr w)) = w.status_is
 
 module _ (words : List (List ℕ)) (file : List ℕ → Shelved) (out note : Channel) (x : Opened) (r : Ran) (e : Ending) (o : IsOpened words file x) (h : HasRun x r)
     (es : e.settings ≡ Some x.settings) (et : e.text ≡ x.text.items) (ec : e.checked ≡ Some (program_in x.checked)) (ek : e.code ≡ Some (arc_value x.code)) (ej : e.journal ≡ Some r.journal.entries)
-    (w : Written r.status e.status r.output.items r.line.items out note)
+    (judged : Status) (behind : List ℕ) (answer : IsAnswerBy x.settings.mode e h.end judged behind) (fault : IsNoteFault judged)
+    (w : Written judged e.status r.output.items (r.line.items ++ behind) out note)
     (laws : AreLaws) where
   abbrev checked : Ir
   checked = program_in x.checked
@@ -188,11 +208,10 @@ module _ (words : List (List ℕ)) (file : List ℕ → Shelved) (out note : Cha
 
   -- ---- what was written
 
-  wrote : Written (status_of h.end) e.status h.final.output (report_text x.settings.evacuate h.end h.final.report ++ []) out note
+  wrote : Written judged e.status h.final.output (report_text x.settings.evacuate h.end h.final.report ++ behind) out note
   wrote =
-      let a : Written (status_of h.end) e.status r.output.items r.line.items out note = subst (λ (z : Status). Written z e.status r.output.items r.line.items out note) h.status w in
-      let b : Written (status_of h.end) e.status h.final.output r.line.items out note = subst (λ (z : List ℕ). Written (status_of h.end) e.status z r.line.items out note) h.output a in
-      subst (λ (z : List ℕ). Written (status_of h.end) e.status h.final.output z out note) (h.line ∙ sym (append-nil (report_text x.settings.evacuate h.end h.final.report))) b
+      let a : Written judged e.status h.final.output (r.line.items ++ behind) out note = subst (λ (z : List ℕ). Written judged e.status z (r.line.items ++ behind) out note) h.output w in
+      subst (λ (z : List ℕ). Written judged e.status h.final.output (z ++ behind) out note) h.line a
 
   -- ---- the whole
 
@@ -207,19 +226,82 @@ module _ (words : List (List ℕ)) (file : List ℕ → Shelved) (out note : Cha
     has_code = ek;
     the_code = record { source = o.source; from = from; whole = whole; of_text = of_text };
     the_run = of_the_run;
-    judged = status_of h.end;
-    behind = [];
-    answer = answer_by x.settings.mode e.text checked code e h.end (status_of h.end) [] of_text (refl, refl);
+    judged = judged;
+    behind = behind;
+    answer = answer;
     what_it_wrote = wrote;
-    how_it_ended = judged_then (status_of h.end) e.status h.final.output (report_text x.settings.evacuate h.end h.final.report ++ []) out note (run_fault h.end) wrote;
+    how_it_ended = judged_then judged e.status h.final.output (report_text x.settings.evacuate h.end h.final.report ++ behind) out note fault wrote;
   }
 
-  pub of_run : Headline words file out note e
-  of_run = record {
+  answered : Headline words file out note e
+  answered = record {
     the_text = record { settings = inl (ap (option_map wanted_of) es ∙ sym o.settings); text = text_of; none = λ n. absurd (let z : Some x.settings ≡ None = sym es ∙ n in cc z) };
     with_a_run = λ other l. let same : log ≡ other = cc (sym ej ∙ l) in subst (λ (z : List Entry). WithARun file out note e z) same with_it;
     without_a_run = λ none. absurd (let z : Some log ≡ None = sym ej ∙ none in cc z);
   }
+
+-- of a run that isn't judged
+pub of_run : (words : List (List ℕ)) (file : List ℕ → Shelved) (out note : Channel) (x : Opened) (r : Ran) (e : Ending) → IsToRun words file x → HasRun x r
+    → e.settings ≡ Some x.settings → e.text ≡ x.text.items → e.checked ≡ Some (program_in x.checked) → e.code ≡ Some (arc_value x.code) → e.journal ≡ Some r.journal.entries
+    → Written r.status e.status r.output.items r.line.items out note → AreLaws → Headline words file out note e
+of_run words file out note x r e o h es et ec ek ej w laws =
+    let ended = status_of h.end in
+    let a : Written ended e.status r.output.items r.line.items out note = subst (λ (z : Status). Written z e.status r.output.items r.line.items out note) h.status w in
+    let b : Written ended e.status r.output.items (r.line.items ++ []) out note = subst (λ (z : List ℕ). Written ended e.status r.output.items z out note) (sym (append-nil r.line.items)) a in
+    answered words file out note x r e o.opened h es et ec ek ej ended []
+    (answer_by x.settings.mode x.text.items (program_in x.checked) (arc_value x.code) e h.end ended [] o.not_judged o.opened.of_text (refl, refl)) (inl (run_fault h.end)) b laws
+
+-- and of one that is
+module _ (words : List (List ℕ)) (file : List ℕ → Shelved) (out note : Channel) (x : Racing) (r : Ran) (e : Ending) (o : IsToRace words file x) (h : HasRaced x r)
+    (es : e.settings ≡ Some x.opened.settings) (et : e.text ≡ x.opened.text.items) (ec : e.checked ≡ Some (program_in x.opened.checked)) (ek : e.code ≡ Some (arc_value x.opened.code))
+    (ej : e.journal ≡ Some r.journal.entries) (w : Written r.status e.status r.output.items r.line.items out note) (laws : AreLaws) where
+  -- the run, what is told of it, the status then, and the line
+  abbrev its_run : Ran
+  its_run = h.ran
+
+  abbrev its_note : RaceNote
+  its_note = note_of h.judged.found
+
+  abbrev its_status : Status
+  its_status = status_with its_note (status_of h.has_run.end)
+
+  abbrev its_race : List ℕ
+  its_race = race_line (name_in e.settings) e.text its_note
+
+  its_log : e.journal ≡ Some its_run.journal.entries
+  its_log = ej ∙ ap (λ (j : Log). Some j.entries) h.judged.journal
+
+  a_race : IsARace e h.has_run.end its_status its_race
+  a_race = record {
+    typed = typed_view x.typed;
+    tree = subst (λ (t : List ℕ). IsTreeOf t (typed_view x.typed)) (sym et) o.set.built.tree;
+    log = its_run.journal.entries;
+    has_journal = its_log;
+    found = h.judged.found;
+    is_found = h.judged.is_found;
+    judged_is = refl;
+    behind_is = refl;
+  }
+
+  race_answer : IsAnswerBy x.opened.settings.mode e h.has_run.end its_status its_race
+  race_answer = subst (λ (m : Mode). IsAnswerBy m e h.has_run.end its_status its_race) (sym o.mode) a_race
+
+  same_line : race_line (name_in (Some its_run.settings)) its_run.text.items its_note ≡ its_race
+  same_line =
+      let named : name_in (Some its_run.settings) ≡ name_in e.settings = ap name_in (ap (λ (s : Settings). Some s) h.has_run.settings ∙ sym es) in
+      let text : its_run.text.items ≡ e.text = ap (λ (t : Vec ℕ Global). t.items) h.has_run.text ∙ sym et in
+      ap₂ (λ (name text : List ℕ). race_line name text its_note) named text
+
+  race_wrote : Written its_status e.status its_run.output.items (its_run.line.items ++ its_race) out note
+  race_wrote =
+      let status_is : r.status ≡ its_status = h.judged.status ∙ ap (λ (z : Status). status_with its_note z) h.has_run.status in
+      let a : Written its_status e.status r.output.items r.line.items out note = subst (λ (z : Status). Written z e.status r.output.items r.line.items out note) status_is w in
+      let b : Written its_status e.status its_run.output.items r.line.items out note = subst (λ (z : Vec ℕ Global). Written its_status e.status z.items r.line.items out note) h.judged.output a in
+      subst (λ (z : List ℕ). Written its_status e.status its_run.output.items z out note) (h.judged.line ∙ ap (λ (z : List ℕ). its_run.line.items ++ z) same_line) b
+
+  pub of_raced : Headline words file out note e
+  of_raced =
+      answered words file out note x.opened its_run e o.opened h.has_run es et ec ek its_log its_status its_race race_answer (judged_fault its_note h.has_run.end) race_wrote laws
 
 -- ---- a check, or saving
 

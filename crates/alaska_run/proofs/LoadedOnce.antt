@@ -59,6 +59,7 @@ module _ (one : OneSpelling (file 1024)) (bytes : List ℕ) (p : Ir) (l : IsLoad
   loaded_or_refused safe (statuses.StackLimit thread) r = r
   loaded_or_refused safe statuses.NoMemory r = r
   loaded_or_refused safe (statuses.Checked found) r = r
+  loaded_or_refused safe (statuses.Raced first second) r = r
   loaded_or_refused safe statuses.Built r = r
   loaded_or_refused safe statuses.CodeTooDeep r = r
   loaded_or_refused safe statuses.CodeTooLong r = r
@@ -81,6 +82,7 @@ module _ (answer : LoadingHasOneAnswer) (bytes : List ℕ) where
   bad_too place (statuses.StackLimit thread) a b = absurd b
   bad_too place statuses.NoMemory a b = absurd b
   bad_too place (statuses.Checked found) a b = absurd b
+  bad_too place (statuses.Raced first second) a b = absurd b
   bad_too place statuses.Built a b = absurd b
   bad_too place statuses.CodeTooDeep a b = absurd b
   bad_too place statuses.CodeTooLong a b = absurd b
@@ -101,6 +103,7 @@ module _ (answer : LoadingHasOneAnswer) (bytes : List ℕ) where
   unsafe_too place why (statuses.StackLimit thread) a b = absurd b
   unsafe_too place why statuses.NoMemory a b = absurd b
   unsafe_too place why (statuses.Checked found) a b = absurd b
+  unsafe_too place why (statuses.Raced first second) a b = absurd b
   unsafe_too place why statuses.Built a b = absurd b
   unsafe_too place why statuses.CodeTooDeep a b = absurd b
   unsafe_too place why statuses.CodeTooLong a b = absurd b
@@ -121,6 +124,7 @@ module _ (answer : LoadingHasOneAnswer) (bytes : List ℕ) where
   one_refusal (statuses.StackLimit thread) status a b = absurd a
   one_refusal statuses.NoMemory status a b = absurd a
   one_refusal (statuses.Checked found) status a b = absurd a
+  one_refusal (statuses.Raced first second) status a b = absurd a
   one_refusal statuses.Built status a b = absurd a
   one_refusal statuses.CodeTooDeep status a b = absurd a
   one_refusal statuses.CodeTooLong status a b = absurd a

@@ -1,10 +1,11 @@
 -- What words and file come to.
 use Rattle.std.proofs.Common.{◌≡◌, ◌≢◌, ℕ, List, [], Option, Some, None, Result, Ok, Err, sym, ap, subst, ◌∙◌, ◌⊎◌, inl, inr}
-use Rattle.std.specs.Prelude.{IfOk}
+use Rattle.std.specs.Prelude.{◌+◌, ◌*◌, ◌≤◌, length, vec_capacity, IfOk}
 use Rattle.std.specs.Option.{option_map}
 use Rattle.std.specs.Arc.{arc_value}
 use Rattle.c_lex.specs.declared.refusal.Kind.{Kind}
 use Rattle.c_lex.specs.declared.refusal.Kind.TheVariants.{TooLong}
+use Rattle.c_tree.specs.TypedViews.{typed_view}
 use Rattle.struct_ir.specs.Nodes.{Ir}
 use Rattle.struct_ir.specs.Instrs.{LinearCode}
 use Rattle.alaska_run.specs.Reading.{Refuses}
@@ -12,7 +13,7 @@ use Rattle.alaska_run.specs.Built.{IsBuilt}
 use Rattle.pin_checker.specs.CheckedViews.{program_in}
 use Rattle.flat_rules.specs.declared.settings.Settings.{Settings}
 use Rattle.flat_rules.specs.declared.settings.Mode.{Mode}
-use Rattle.flat_rules.specs.declared.settings.Mode.TheVariants.{Run, Churn, Load}
+use Rattle.flat_rules.specs.declared.settings.Mode.TheVariants.{Run, Churn, Race, Load}
 use Rattle.run_words.specs.Wanted.{settings_of, wanted_of}
 use Rattle.run_notes.specs.declared.status.Status.{Status}
 use Rattle.run_notes.specs.declared.status.Status.TheVariants as statuses
@@ -23,12 +24,13 @@ use Rattle.alaska_run.specs.declared.preparing.Course.{Course}
 use Rattle.alaska_run.specs.declared.preparing.Course.TheVariants as courses
 use Rattle.alaska_run.specs.declared.preparing.Opened.{Opened}
 use Rattle.alaska_run.specs.declared.preparing.Stopped.{Stopped}
+use Rattle.alaska_run.specs.declared.racing.Racing.{Racing}
 use Rattle.alaska_run.specs.Sources.{Source, Read, Made, Saved, source_of, source_in, name_in, IsAll, IsFirst}
 use Rattle.alaska_run.specs.Faults.{IsFault, IsRefused, RefusesCode}
 use Rattle.alaska_run.specs.Modes.{IsCompiledTo, IsCodeBy}
 use Rattle.alaska_run.specs.Headline.{IsTextOf}
-use Rattle.alaska_run.specs.inner.Courses.{IsStopped, IsOpened, IsWorked, IsCourse, IsStoppedWith, IsStoppedAs, IsReady, IsOpenedOf, IsLoadedOf, WorkedBy, IsWorkedOf, IsCourseOf, IsLoadingOf}
-use Rattle.alaska_run.proofs.Words.{fits, runs_by}
+use Rattle.alaska_run.specs.inner.Courses.{IsStopped, IsOpened, IsToRun, IsToRace, IsWorked, IsCourse, IsStoppedWith, IsStoppedAs, IsReady, IsOpenedOf, IsRacingOf, IsLoadedOf, WorkedBy, IsWorkedOf, IsCourseOf, IsLoadingOf}
+use Rattle.alaska_run.proofs.Words.{runs_by}
 
 -- what holds of a value holds where there is one
 pub where_ok : {A E : Type 0} (P Q : A → Type 0) (r : Result A E) → ((a : A) → P a → Q a) → IfOk r P → IfOk r Q
@@ -77,13 +79,34 @@ module _ (words : List (List ℕ)) (file : List ℕ → Shelved) (s : Settings) 
       let there : P x.settings x.text.items = subst (λ (z : Settings). P z x.text.items) (sym is_s) (subst (λ (t : List ℕ). P s t) (sym is_text) here) in
       record { settings = there.0; source = source; from = there.1; whole = there.2; of_text = there.3; ready = ready }
 
-  opened : (x : Opened) → s.mode ≢ Load → IsAll source text → IsOpenedOf s text x → IsOpened words file x
+  opened : (x : Opened) → s.mode ≢ Load → IsAll source text → IsOpenedOf s text x → IsToRun words file x
   opened x text_mode whole o =
-      let runs = runs_by s.mode (wanted_of s) (fits words (wanted_of s) said) o.not_checked o.not_built text_mode in
-      opened_by x o.settings_are o.text_is whole (compiled_by s.mode text (program_in x.checked) (arc_value x.code) runs (o.typed, o.built)) o.ready
+      let runs = runs_by s.mode o.not_checked o.not_judged o.not_built text_mode in
+      record {
+        opened = opened_by x o.settings_are o.text_is whole (compiled_by s.mode text (program_in x.checked) (arc_value x.code) runs (o.typed, o.built)) o.ready;
+        not_judged = subst (λ (z : Settings). z.mode ≢ Race) (sym o.settings_are) o.not_judged;
+      }
 
-  loaded : (x : Opened) → s.mode ≡ Load → IsAll source text → IsLoadedOf s text x → IsOpened words file x
-  loaded x mode whole o = opened_by x o.settings_are o.text_is whole (subst (λ (m : Mode). IsCodeBy m text (program_in x.checked) (arc_value x.code)) (sym mode) o.loaded) o.ready
+  loaded : (x : Opened) → s.mode ≡ Load → IsAll source text → IsLoadedOf s text x → IsToRun words file x
+  loaded x mode whole o = record {
+    opened = opened_by x o.settings_are o.text_is whole (subst (λ (m : Mode). IsCodeBy m text (program_in x.checked) (arc_value x.code)) (sym mode) o.loaded) o.ready;
+    not_judged = λ judged. let z : Load ≡ Race = sym mode ∙ ap (λ (z : Settings). z.mode) (sym o.settings_are) ∙ judged in cc z;
+  }
+
+  -- one that is to run and to be judged
+  racing : (x : Racing) → IsAll source text → IsRacingOf s text x → IsToRace words file x
+  racing x whole o =
+      let by : IsCodeBy s.mode text (program_in x.opened.checked) (arc_value x.opened.code) =
+      subst (λ (m : Mode). IsCodeBy m text (program_in x.opened.checked) (arc_value x.opened.code)) (sym o.mode) (typed_view x.typed, o.built) in
+      record {
+        opened = opened_by x.opened o.settings_are o.text_is whole by o.ready;
+        mode = ap (λ (z : Settings). z.mode) o.settings_are ∙ o.mode;
+        set = record {
+          ready = o.ready;
+          built = subst (λ (t : List ℕ). IsBuilt t (typed_view x.typed) (program_in x.opened.checked) (arc_value x.opened.code)) (sym o.text_is) o.built;
+          room = subst (λ (z : Settings). 1184 + 2 * length (name_in (Some z)) ≤ vec_capacity x.opened.line) (sym o.settings_are) o.room;
+        };
+      }
 
   -- and one that was checked, or saved
   worked : (x : Worked) → IsAll source text → IsWorkedOf s text x → IsWorked words file x
@@ -97,6 +120,7 @@ module _ (words : List (List ℕ)) (file : List ℕ → Shelved) (s : Settings) 
   -- a text that is all of its source, which is no code file
   pub is_all : IsText source → s.mode ≢ Load → IsAll source text → (x : Course) → IsCourseOf s text x → IsCourse words file x
   is_all of_text text_mode whole (courses.Opened x) h = opened x text_mode whole h
+  is_all of_text text_mode whole (courses.Racing x) h = racing x whole h
   is_all of_text text_mode whole (courses.Worked x) h = worked x whole h
   is_all of_text text_mode whole (courses.Stopped x) h =
       stopped (statuses.Refused h.reason.place h.reason.kind) x (inl whole) (source, from, is_refused source text h.reason.place h.reason.kind of_text (inl (whole, h.refuses))) h.stopped
@@ -105,11 +129,13 @@ module _ (words : List (List ℕ)) (file : List ℕ → Shelved) (s : Settings) 
   pub not_run : (status : Status) → IsTextOf source text status → IsFault words file (Some s) text status → (x : Course) → IsStoppedAs status (Some s) text x → IsCourse words file x
   not_run status of fault (courses.Stopped x) h = stopped status x of fault h
   not_run status of fault (courses.Opened x) h = absurd h
+  not_run status of fault (courses.Racing x) h = absurd h
   not_run status of fault (courses.Worked x) h = absurd h
 
   -- a code file that was read whole
   pub is_loading : s.mode ≡ Load → IsAll source text → ((status : Status) → RefusesCode text status → IsFault words file (Some s) text status) → (x : Course) → IsLoadingOf s text x → IsCourse words file x
   is_loading mode whole faults (courses.Opened x) h = loaded x mode whole h
+  is_loading mode whole faults (courses.Racing x) h = absurd h
   is_loading mode whole faults (courses.Worked x) h = absurd h
   is_loading mode whole faults (courses.Stopped x) h = stopped h.status x (inl whole) (faults h.status h.refuses) h.stopped
 
@@ -130,6 +156,7 @@ code_faults words file o text saved from whole statuses.OutputLimit r = absurd r
 code_faults words file o text saved from whole (statuses.StackLimit thread) r = absurd r
 code_faults words file o text saved from whole statuses.NoMemory r = absurd r
 code_faults words file o text saved from whole (statuses.Checked found) r = absurd r
+code_faults words file o text saved from whole (statuses.Raced first second) r = absurd r
 code_faults words file o text saved from whole statuses.Built r = absurd r
 code_faults words file o text saved from whole statuses.CodeTooDeep r = absurd r
 code_faults words file o text saved from whole statuses.CodeTooLong r = absurd r

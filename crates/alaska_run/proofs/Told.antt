@@ -25,12 +25,16 @@ use Rattle.code_load.specs.Loads.{IsLoaded}
 use Rattle.run_notes.specs.declared.status.Status.{Status}
 use Rattle.run_notes.specs.declared.status.Status.TheVariants as statuses
 use Rattle.run_notes.specs.Statuses.{status_of}
+use Rattle.run_notes.specs.Races.{status_with}
+use Rattle.run_notes.specs.declared.races.RaceNote.{RaceNote}
+use Rattle.run_notes.specs.declared.races.RaceNote.TheVariants as notes
 use Rattle.run_edges.specs.Files.{Shelved, most_bytes, most_file_bytes}
 use Rattle.run_edges.specs.Sinks.{Channel, WriteFailed}
 use Rattle.run_edges.specs.Writing.{after_note_fault}
 use Rattle.alaska_run.specs.Ending.{Ending, WantedMemory}
 use Rattle.alaska_run.specs.Sources.{Source, Read, Made, Saved, churned, source_by, source_of, source_in, Tells, IsAll, IsFirst, Failed}
 use Rattle.alaska_run.specs.Faults.{IsFault, IsRefused, RefusesCode, IsUnloaded}
+use Rattle.alaska_run.specs.Races.{note_of}
 use Rattle.alaska_run.specs.Modes.{IsCompiledTo, IsCodeBy, IsAnswerBy, IsACheck, IsSavedAs, IsASave, IsWorkBy, IsWorkIn, IsDoneBy}
 use Rattle.alaska_run.specs.Headline.{Headline, IsOrUnwritten, WithARun, WithoutARun, DidItsWork}
 use Rattle.alaska_run.specs.Answers.{Causes, Answers, AnswersToAText, AnswersToCode, IsUnlessMemory, IsTold}
@@ -52,24 +56,16 @@ pub compiled_in : (mode : Mode) (text : List ℕ) (checked : Ir) (code : LinearC
 compiled_in Run text checked code n h = h
 compiled_in Churn text checked code n h = h
 compiled_in Check text checked code n h = absurd h
-compiled_in Race text checked code n h = absurd h
+compiled_in Race text checked code n h = h
 compiled_in Build text checked code n h = absurd h
 compiled_in Load text checked code n h = absurd (n refl)
-
-pub judged_in : (mode : Mode) (e : Ending) (end : End) (judged : Status) (behind : List ℕ) → IsAnswerBy mode e end judged behind → judged ≡ status_of end
-judged_in Run e end judged behind h = h.0
-judged_in Churn e end judged behind h = h.0
-judged_in Check e end judged behind h = absurd h
-judged_in Race e end judged behind h = absurd h
-judged_in Build e end judged behind h = absurd h
-judged_in Load e end judged behind h = h.0
 
 -- where there is a journal, all is done
 run_done : (mode : Mode) (e : Ending) (end : End) (judged : Status) (behind : List ℕ) → IsAnswerBy mode e end judged behind → IsSome e.journal → IsDoneBy mode e
 run_done Run e end judged behind h j = j
 run_done Churn e end judged behind h j = j
 run_done Check e end judged behind h j = absurd h
-run_done Race e end judged behind h j = absurd h
+run_done Race e end judged behind h j = j
 run_done Build e end judged behind h j = absurd h
 run_done Load e end judged behind h j = j
 
@@ -111,6 +107,7 @@ saved_of_work o text checked statuses.OutputLimit output line h = absurd h
 saved_of_work o text checked (statuses.StackLimit thread) output line h = absurd h
 saved_of_work o text checked statuses.NoMemory output line h = absurd h
 saved_of_work o text checked (statuses.Checked found) output line h = absurd h
+saved_of_work o text checked (statuses.Raced first second) output line h = absurd h
 saved_of_work o text checked statuses.Built output line h = tt
 saved_of_work o text checked statuses.CodeTooDeep output line h = tt
 saved_of_work o text checked statuses.CodeTooLong output line h = tt
@@ -131,6 +128,7 @@ saved_done o text checked statuses.OutputLimit output line h e is = absurd h
 saved_done o text checked (statuses.StackLimit thread) output line h e is = absurd h
 saved_done o text checked statuses.NoMemory output line h e is = absurd h
 saved_done o text checked (statuses.Checked found) output line h e is = absurd h
+saved_done o text checked (statuses.Raced first second) output line h e is = absurd h
 saved_done o text checked statuses.Built output line h e is = inl is
 saved_done o text checked statuses.CodeTooDeep output line h e is = inr (inl is)
 saved_done o text checked statuses.CodeTooLong output line h e is = inr (inr is)
@@ -172,25 +170,41 @@ work_in file e judged output line source from whole (Some s) is h = record { set
 work_of : (file : List ℕ → Shelved) (e : Ending) (judged : Status) (output line : List ℕ) → DidItsWork file e judged output line → AWork file e judged
 work_of file e judged output line d = work_in file e judged output line d.source d.from d.whole e.settings refl d.work
 
--- ---- the ends of a run
+-- ---- the statuses of a run
 
--- the status is that of an end
-abbrev IsOfAnEnd : Status → Type 0
-IsOfAnEnd (statuses.Done exit) = Unit {0}
-IsOfAnEnd (statuses.Trap word kind) = Unit {0}
-IsOfAnEnd statuses.AllBlocked = Unit {0}
-IsOfAnEnd statuses.TurnLimit = Unit {0}
-IsOfAnEnd statuses.OutputLimit = Unit {0}
-IsOfAnEnd (statuses.StackLimit thread) = Unit {0}
-IsOfAnEnd status = ⊥
+-- the status is that of an end, or what judging a run makes of it
+abbrev IsOfARun : Status → Type 0
+IsOfARun (statuses.Done exit) = Unit {0}
+IsOfARun (statuses.Trap word kind) = Unit {0}
+IsOfARun statuses.AllBlocked = Unit {0}
+IsOfARun statuses.TurnLimit = Unit {0}
+IsOfARun statuses.OutputLimit = Unit {0}
+IsOfARun (statuses.StackLimit thread) = Unit {0}
+IsOfARun statuses.NoMemory = Unit {0}
+IsOfARun (statuses.Raced first second) = Unit {0}
+IsOfARun status = ⊥
 
-of_an_end : (end : End) → IsOfAnEnd (status_of end)
+of_an_end : (end : End) → IsOfARun (status_of end)
 of_an_end (ends.Done exit) = tt
 of_an_end (ends.Trap word kind) = tt
 of_an_end ends.AllBlocked = tt
 of_an_end ends.TurnLimit = tt
 of_an_end ends.OutputLimit = tt
 of_an_end (ends.StackLimit thread) = tt
+
+of_a_judged : (note : RaceNote) (end : End) → IsOfARun (status_with note (status_of end))
+of_a_judged notes.Clean end = of_an_end end
+of_a_judged (notes.Race first second) end = tt
+of_a_judged (notes.Broke rule turns) end = of_an_end end
+of_a_judged notes.NotJudged end = tt
+
+judged_in : (mode : Mode) (e : Ending) (end : End) (judged : Status) (behind : List ℕ) → IsAnswerBy mode e end judged behind → IsOfARun judged
+judged_in Run e end judged behind h = subst IsOfARun (sym h.0) (of_an_end end)
+judged_in Churn e end judged behind h = subst IsOfARun (sym h.0) (of_an_end end)
+judged_in Check e end judged behind h = absurd h
+judged_in Race e end judged behind h = subst IsOfARun (sym h.judged_is) (of_a_judged (note_of h.found) end)
+judged_in Build e end judged behind h = absurd h
+judged_in Load e end judged behind h = subst IsOfARun (sym h.0) (of_an_end end)
 
 -- a status after note failed is want of memory or a fault of writing
 after_note : (s : Status) → (after_note_fault s ≡ statuses.NoMemory) ⊎ (after_note_fault s ≡ statuses.WriteFault)
@@ -206,6 +220,7 @@ after_note statuses.OutputLimit = inr refl
 after_note (statuses.StackLimit thread) = inr refl
 after_note statuses.NoMemory = inl refl
 after_note (statuses.Checked found) = inr refl
+after_note (statuses.Raced first second) = inr refl
 after_note statuses.Built = inr refl
 after_note statuses.CodeTooDeep = inr refl
 after_note statuses.CodeTooLong = inr refl
@@ -269,6 +284,7 @@ unloaded_so file text statuses.OutputLimit u = inr u
 unloaded_so file text (statuses.StackLimit thread) u = inr u
 unloaded_so file text statuses.NoMemory u = inr u
 unloaded_so file text (statuses.Checked found) u = inr u
+unloaded_so file text (statuses.Raced first second) u = inr u
 unloaded_so file text statuses.Built u = inr u
 unloaded_so file text statuses.CodeTooDeep u = inr u
 unloaded_so file text statuses.CodeTooLong u = inr u
@@ -315,18 +331,15 @@ module _ (words : List (List ℕ)) (file : List ℕ → Shelved) (out note : Cha
     abbrev run : WithARun file out note e log
     run = h.with_a_run log l
 
-    judged_so : run.judged ≡ status_of run.the_run.end
+    judged_so : IsOfARun run.judged
     judged_so = judged_in run.settings.mode e run.the_run.end run.judged run.behind run.answer
 
-    run_status : IsOrUnwritten (status_of run.the_run.end) e.status
-    run_status = subst (λ (z : Status). IsOrUnwritten z e.status) judged_so run.how_it_ended
-
-    never : (s : Status) → (IsOfAnEnd s → ⊥) → s ≢ statuses.WriteFault → e.status ≡ s → ⊥
-    never s other not is = elim run_status [ inl a ↦ other (subst IsOfAnEnd (sym a ∙ is) (of_an_end run.the_run.end)) | inr b ↦ not (sym is ∙ b) ]
+    never : (s : Status) → (IsOfARun s → ⊥) → s ≢ statuses.WriteFault → e.status ≡ s → ⊥
+    never s other not is = elim run.how_it_ended [ inl a ↦ other (subst IsOfARun (sym a ∙ is) judged_so) | inr b ↦ not (sym is ∙ b) ]
 
     run_fault : e.status ≡ statuses.WriteFault → WriteFailed out ⊎ WriteFailed note
     run_fault is = elim run.what_it_wrote [
-      | inl w ↦ absurd (subst IsOfAnEnd (sym judged_so ∙ sym w.status_is ∙ is) (of_an_end run.the_run.end))
+      | inl w ↦ absurd (subst IsOfARun (sym w.status_is ∙ is) judged_so)
       | inr x ↦ elim x [ inl w ↦ inl w.fault | inr w ↦ inr w.fault ]
     ]
 
@@ -364,7 +377,7 @@ module _ (words : List (List ℕ)) (file : List ℕ → Shelved) (out note : Cha
       | inr x ↦ elim x [ inl b ↦ inl b.1 | inr b ↦ inr b.1 ]
     ]
 
-  fault_of : (s : Status) → s ≢ statuses.NoMemory → s ≢ statuses.WriteFault → (IsOfWork s → ⊥) → (IsOfAnEnd s → ⊥) → e.status ≡ s → IsFault words file e.settings e.text s
+  fault_of : (s : Status) → s ≢ statuses.NoMemory → s ≢ statuses.WriteFault → (IsOfWork s → ⊥) → (IsOfARun s → ⊥) → e.status ≡ s → IsFault words file e.settings e.text s
   fault_of s memory write work end is = elim (there_or_not e.journal) [ inl n ↦ fault_as n s memory write work is | inr l ↦ absurd (never l.0 l.1 s end write is) ]
 
   pub causes : Causes words file out note e
@@ -405,6 +418,7 @@ module _ (words : List (List ℕ)) (file : List ℕ → Shelved) (out note : Cha
     by_cause none statuses.OutputLimit is f = absurd f
     by_cause none (statuses.StackLimit thread) is f = absurd f
     by_cause none (statuses.Checked found) is f = absurd f
+    by_cause none (statuses.Raced first second) is f = absurd f
     by_cause none statuses.Built is f = absurd f
     by_cause none statuses.CodeTooDeep is f = absurd f
     by_cause none statuses.CodeTooLong is f = absurd f

@@ -44,7 +44,7 @@ module _ (file : List ℕ → Shelved) where
   a_text_by Run w f n l = a_file Read w.file (both (is_some w.file) _ f).0
   a_text_by Churn w f n l = absurd (n refl)
   a_text_by Check w f n l = a_file Read w.file (both (is_some w.file) _ f).0
-  a_text_by Race w f n l = cc f
+  a_text_by Race w f n l = a_file Read w.file (both (is_some w.file) _ f).0
   a_text_by Build w f n l = a_file Read w.file (both (is_some w.file) _ f).0
   a_text_by Load w f n l = absurd (l refl)
 
@@ -69,11 +69,11 @@ module _ (file : List ℕ → Shelved) where
 
 -- ---- modes that run
 
--- words want a run of modes run and churn alone, where they want no check, no saving and no loading
-pub runs_by : (mode : Mode) (w : Wanted) → fits_mode_of mode w ≡ true → mode ≢ Check → mode ≢ Build → mode ≢ Load → (mode ≡ Run) ⊎ (mode ≡ Churn)
-runs_by Run w f c b l = inl refl
-runs_by Churn w f c b l = inr refl
-runs_by Check w f c b l = absurd (c refl)
-runs_by Race w f c b l = cc f
-runs_by Build w f c b l = absurd (b refl)
-runs_by Load w f c b l = absurd (l refl)
+-- a mode is run or churn, where it is no check, no race, no saving and no loading
+pub runs_by : (mode : Mode) → mode ≢ Check → mode ≢ Race → mode ≢ Build → mode ≢ Load → (mode ≡ Run) ⊎ (mode ≡ Churn)
+runs_by Run c r b l = inl refl
+runs_by Churn c r b l = inr refl
+runs_by Check c r b l = absurd (c refl)
+runs_by Race c r b l = absurd (r refl)
+runs_by Build c r b l = absurd (b refl)
+runs_by Load c r b l = absurd (l refl)

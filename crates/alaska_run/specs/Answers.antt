@@ -49,7 +49,7 @@ IsUnlessMemory e status = (e.status ≡ status) ⊎ WantedMemory e
 
 -- what the bytes of a text say of the ending, in this mode
 pub record AnswersToAText (mode : Mode) (bytes : List ℕ) (e : Ending) : Type 0 where
-  -- to a text of the subset is done what the mode does: it is run, checked in mode check, or saved in mode build
+  -- to a text of the subset is done what the mode does: it is run, in mode race also judged, checked in mode check, or saved in mode build
   pub complete : (typed : Typed) → length bytes ≤ most_bytes → IsTreeOf bytes typed → IsDoneBy mode e ⊎ WantedMemory e
   -- another text is refused, for the one reason that it has
   pub refused : (r : Refusal) → length bytes ≤ most_bytes → Refuses bytes r → IsUnlessMemory e (statuses.Refused r.place r.kind)

@@ -1,6 +1,7 @@
 pub mod Ending
 pub mod Sources
 pub mod Faults
+pub mod Races
 pub mod Modes
 pub mod Loading
 pub mod Headline

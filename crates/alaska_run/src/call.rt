@@ -13,6 +13,7 @@ ghost use Rattle.run_edges.specs.Writing.{Written};
 use crate::checking::Worked;
 use crate::ending::Ending;
 use crate::preparing::{Course, Stopped, prepare};
+use crate::racing::run_racing;
 use crate::running::{Ran, run_opened};
 use ak_crew::Gate;
 use ak_io::{Shelf, Sink};
@@ -124,10 +125,14 @@ fn end_without_memory<O: Sink, N: Sink>(alloc: Global, out: &mut O, note: &mut N
 /// In mode check no code runs: the source's run of the text's own typed tree is checked, in the order of the schedule's seed, and `note` takes
 /// the line of the first rule that it breaks, or of how it ends.
 ///
+/// In mode race a text runs as in mode run, and then the turns that the journal tells are gone through once more, by the source's meaning of the text's
+/// own typed tree. Behind the report `note` takes the line of the first two accesses that race, or that none do.
+///
 /// In mode build no code runs either: `out` takes the code file of the text's checked code, and `note` the line of its length, or of what it has too
 /// much of. In mode load FILE is such a file: its code is checked again, and runs as that of a text does.
 ///
-/// Where `out` fails, `note` is not written. Once the world was opened no memory is taken; a check or saving may come to want of memory.
+/// Where `out` fails, `note` is not written. Once the world was opened no memory is taken, but to judge a run in mode race; that, a check or saving may
+/// come to want of memory.
 pub fn alaska<R: Threads + Wait + Sync, F: Shelf, O: Sink, N: Sink, G: Gate>(
     rt: &R,
     alloc: Global,
@@ -164,6 +169,7 @@ pub fn alaska<R: Threads + Wait + Sync, F: Shelf, O: Sink, N: Sink, G: Gate>(
     flat_replay::laws::accesses_of_journals_stay();
     match prepare(alloc, words, shelf) {
         Ok(Course::Opened(opened)) => end_run(run_opened(rt, opened, gate), out, note),
+        Ok(Course::Racing(racing)) => end_run(run_racing(rt, alloc, racing, gate), out, note),
         Ok(Course::Worked(worked)) => end_worked(worked, out, note),
         Ok(Course::Stopped(stopped)) => end_stopped(stopped, out, note),
         Err(NoMemory) => end_without_memory(alloc, out, note),

@@ -5,7 +5,7 @@ ghost use Rattle.pin_checker.specs.CheckedViews.{program_in};
 ghost use Rattle.code_load.specs.Loads.{IsLoaded};
 ghost use Rattle.alaska_run.specs.inner.Courses.{IsLoadedOf, IsLoadingOf};
 
-use crate::preparing::{Course, Opened, open_world, stop_with};
+use crate::preparing::{Course, Opened, REPORT_BYTES, open_world, stop_with};
 use ak_words::NoMemory;
 use code_load::{LoadFault, load};
 use emit_code::emit;
@@ -29,7 +29,7 @@ fn open_code(
     let code = emit(alloc, &checked)?;
     code.keeps_lawful();
     code.keeps_valid();
-    open_world(alloc, settings, text, checked, code)
+    open_world(alloc, settings, text, checked, code, REPORT_BYTES)
 }
 
 /// Loads the code of a file that was read whole, and opens the world for it.

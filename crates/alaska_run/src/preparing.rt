@@ -1,7 +1,7 @@
 //! What comes before anything is written, but for a run: the words, the text, its code, and the world that the workers share, or what a check
 //! finds or saving gives.
 
-ghost use Rattle.std.specs.Prelude.{◌≡◌, ◌≢◌, ◌≤◌, ℕ, List, [], map, string_bytes, length, unwrap_or, IfOk, Some, None};
+ghost use Rattle.std.specs.Prelude.{◌≡◌, ◌≢◌, ◌≤◌, ℕ, List, [], map, string_bytes, length, unwrap_or, vec_capacity, IfOk, Some, None};
 ghost use Rattle.std.specs.Arc.{arc_value};
 ghost use Rattle.c_tree.specs.TypedViews.{typed_view};
 ghost use Rattle.struct_ir.specs.LinearViews.{code_view};
@@ -15,6 +15,7 @@ ghost use Rattle.alaska_run.specs.inner.Courses.{IsCourse, IsCourseOf, IsOpenedO
 use crate::building::save_text;
 use crate::checking::{Worked, check_text};
 use crate::loading::load_text;
+use crate::racing::{Racing, open_race};
 use crate::{Built, compile};
 use ak_io::Shelf;
 use ak_words::NoMemory;
@@ -31,8 +32,8 @@ use std::sync::Arc;
 use struct_ir::linear::Code;
 use turn_lock::Pass;
 
-// How many bytes a report has at most.
-const REPORT_BYTES: usize = 1024;
+/// How many bytes a report has at most.
+pub(crate) const REPORT_BYTES: usize = 1024;
 
 /// A call that comes to no run: its status, what the words said, the text, and the line for note.
 #[derive(Drop)]
@@ -60,6 +61,7 @@ pub(crate) struct Opened {
 pub(crate) enum Course {
     Stopped(Stopped),
     Opened(Opened),
+    Racing(Racing),
     Worked(Worked),
 }
 
@@ -115,20 +117,23 @@ pub(crate) fn stop_with(
     }))
 }
 
-/// The world for the code of a text.
+/// The world for the code of a text, and room for what note is to take.
 pub(crate) fn open_world(
     alloc: Global,
     settings: Settings,
     text: Vec<u8>,
     checked: Checked,
     code: Code,
+    room: usize,
 ) -> Result<Opened, NoMemory>
+    requires { 1024 ≤ room }
     ensures ready { IfOk result IsReady }
+    ensures room { IfOk result (λ x. vec_capacity x.line ≡ room) }
     ensures kept { IfOk result (λ x. (x.settings ≡ settings) × (x.text ≡ text) × (x.checked ≡ checked) × (arc_value x.code ≡ code_view code)) }
 {
     let code = Arc::new(alloc, Program::load(alloc, code)?)?;
     let (world, passes) = SharedWorld::open(alloc, Arc::clone(&code)?, &settings)?;
-    let line = Vec::with_capacity(alloc, REPORT_BYTES)?;
+    let line = Vec::with_capacity(alloc, room)?;
     Ok(Opened {
         settings,
         text,
@@ -148,6 +153,7 @@ fn open_text(
     built: Built,
 ) -> Result<Opened, NoMemory>
     requires not_checked { settings.mode ≢ Mode.Check }
+    requires not_judged { settings.mode ≢ Mode.Race }
     requires not_built { settings.mode ≢ Mode.Build }
     requires built { IsBuilt text.items (typed_view built.typed) (program_in built.checked) (code_view built.code) }
     ensures { IfOk result (IsOpenedOf settings text.items) }
@@ -157,7 +163,7 @@ fn open_text(
         checked,
         code,
     } = built;
-    open_world(alloc, settings, text, checked, code)
+    open_world(alloc, settings, text, checked, code, REPORT_BYTES)
 }
 
 // What the mode does with a text that is compiled: it is checked, or its code is saved, or the world is opened in which it is to run.
@@ -167,6 +173,7 @@ fn begin(alloc: Global, settings: Settings, text: Vec<u8>, built: Built) -> Resu
 {
     match settings.mode {
         Mode::Check => Ok(Course::Worked(check_text(alloc, settings, text, built)?)),
+        Mode::Race => Ok(Course::Racing(open_race(alloc, settings, text, built)?)),
         Mode::Build => Ok(Course::Worked(save_text(alloc, settings, text, built)?)),
         _ => Ok(Course::Opened(open_text(alloc, settings, text, built)?)),
     }

@@ -103,6 +103,7 @@ saved_status o source checked statuses.OutputLimit output line h = absurd h
 saved_status o source checked (statuses.StackLimit thread) output line h = absurd h
 saved_status o source checked statuses.NoMemory output line h = absurd h
 saved_status o source checked (statuses.Checked found) output line h = absurd h
+saved_status o source checked (statuses.Raced first second) output line h = absurd h
 saved_status o source checked statuses.Built output line h = ((λ z. cc z), (λ z. cc z))
 saved_status o source checked statuses.CodeTooDeep output line h = ((λ z. cc z), (λ z. cc z))
 saved_status o source checked statuses.CodeTooLong output line h = ((λ z. cc z), (λ z. cc z))
@@ -278,6 +279,7 @@ module _ (one_tree : OneTree) (not_both : NotBoth) (the_tree : IsTheTree) (known
     by_judged statuses.OutputLimit named fault w = absurd fault
     by_judged (statuses.StackLimit thread) named fault w = absurd fault
     by_judged (statuses.Checked found) named fault w = absurd fault
+    by_judged (statuses.Raced first second) named fault w = absurd fault
     by_judged statuses.Built named fault w = absurd fault
     by_judged statuses.CodeTooDeep named fault w = absurd fault
     by_judged statuses.CodeTooLong named fault w = absurd fault

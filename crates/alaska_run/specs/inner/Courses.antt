@@ -1,9 +1,16 @@
 -- What comes of words and text before anything is written, and what a run comes to.
-use Rattle.std.specs.Prelude.{◌≡◌, ◌≢◌, ℕ, ◌≤◌, List, [], Option, Some, None, unwrap_or, vec_len, vec_capacity}
+use Rattle.std.specs.Prelude.{◌≡◌, ◌≢◌, ℕ, ◌+◌, ◌*◌, ◌≤◌, List, [], ◌++◌, length, Option, Some, None, IfSome, unwrap_or, vec_len, vec_capacity}
 use Rattle.std.specs.Option.{option_map}
 use Rattle.std.specs.Arc.{arc_value}
 use Rattle.c_lex.specs.declared.refusal.Refusal.{Refusal}
+use Rattle.ak_trace.specs.declared.entry.Entry.{Entry}
+use Rattle.block_store.specs.Runs.{run, no_run}
 use Rattle.c_tree.specs.Typed.{Typed}
+use Rattle.c_tree.specs.TypedViews.{typed_view}
+use Rattle.c_meaning.specs.Meaning.{program, start}
+use Rattle.flat_meaning.specs.Journals.{journal_picks}
+use Rattle.race_check.specs.Ends.{IsRaceEnd}
+use Rattle.race_check.specs.declared.ending.RaceEnd.{RaceEnd}
 use Rattle.alaska_run.specs.Reading.{Refuses}
 use Rattle.alaska_run.specs.Built.{IsBuilt}
 use Rattle.alaska_run.specs.Loaded.{IsLoadedTo}
@@ -13,7 +20,7 @@ use Rattle.pin_checker.specs.CheckedViews.{program_in}
 use Rattle.turn_lock.specs.Locks.{AllPasses, first_of, passes_of}
 use Rattle.ak_trace.specs.declared.endings.End.{End}
 use Rattle.flat_rules.specs.declared.settings.Mode.{Mode}
-use Rattle.flat_rules.specs.declared.settings.Mode.TheVariants.{Check, Build}
+use Rattle.flat_rules.specs.declared.settings.Mode.TheVariants.{Check, Race, Build}
 use Rattle.flat_rules.specs.declared.settings.Settings.{Settings}
 use Rattle.flat_rules.specs.Rules.{rules_of}
 use Rattle.flat_rules.specs.States.{State}
@@ -31,15 +38,18 @@ use Rattle.alaska_run.specs.declared.preparing.Course.{Course}
 use Rattle.alaska_run.specs.declared.preparing.Course.TheVariants as courses
 use Rattle.alaska_run.specs.declared.preparing.Opened.{Opened}
 use Rattle.alaska_run.specs.declared.preparing.Stopped.{Stopped}
+use Rattle.alaska_run.specs.declared.racing.Racing.{Racing}
 use Rattle.alaska_run.specs.declared.running.Ran.{Ran}
 use Rattle.run_notes.specs.declared.status.Status.{Status}
 use Rattle.run_notes.specs.declared.status.Status.TheVariants as statuses
 use Rattle.alaska_run.specs.Sources.{Source, source_of, source_in, name_in, IsAll}
 use Rattle.alaska_run.specs.Faults.{IsFault, RefusesCode}
+use Rattle.alaska_run.specs.Races.{note_of}
 use Rattle.alaska_run.specs.Modes.{IsCodeBy, IsSavedAs}
 use Rattle.alaska_run.specs.Headline.{IsTextOf}
 use Rattle.run_notes.specs.Checks.{check_line}
 use Rattle.run_notes.specs.Lines.{fault_line}
+use Rattle.run_notes.specs.Races.{race_line, status_with}
 use Rattle.run_edges.specs.Files.{Shelved}
 use Rattle.run_notes.specs.Reports.{report_text}
 use Rattle.run_notes.specs.Statuses.{status_of}
@@ -68,6 +78,12 @@ pub record IsReady (x : Opened) : Type 0 where
   pub empty : x.line.items ≡ []
   pub room : 1024 ≤ vec_capacity x.line
 
+-- what a run stands on that is to be judged: its code is that of the tree, and there is room for the line of a race
+pub record IsReadyToRace (x : Racing) : Type 0 where
+  pub ready : IsReady x.opened
+  pub built : IsBuilt x.opened.text.items (typed_view x.typed) (program_in x.opened.checked) (arc_value x.opened.code)
+  pub room : 1184 + 2 * length (name_in (Some x.opened.settings)) ≤ vec_capacity x.opened.line
+
 -- the text of a source is compiled or, in mode load, loaded, and the world opened
 pub record IsOpened (words : List (List ℕ)) (file : List ℕ → Shelved) (x : Opened) : Type 0 where
   pub settings : settings_of words ≡ Some (wanted_of x.settings)
@@ -76,6 +92,17 @@ pub record IsOpened (words : List (List ℕ)) (file : List ℕ → Shelved) (x :
   pub whole : IsAll source x.text.items
   pub of_text : IsCodeBy x.settings.mode x.text.items (program_in x.checked) (arc_value x.code)
   pub ready : IsReady x
+
+-- and the run is not to be judged
+pub record IsToRun (words : List (List ℕ)) (file : List ℕ → Shelved) (x : Opened) : Type 0 where
+  pub opened : IsOpened words file x
+  pub not_judged : x.settings.mode ≢ Race
+
+-- or it is
+pub record IsToRace (words : List (List ℕ)) (file : List ℕ → Shelved) (x : Racing) : Type 0 where
+  pub opened : IsOpened words file x.opened
+  pub mode : x.opened.settings.mode ≡ Race
+  pub set : IsReadyToRace x
 
 -- this tree was checked under the settings, and this is what was found of it
 pub record IsFound (typed : Typed) (report : Report) (x : Worked) : Type 0 where
@@ -111,6 +138,7 @@ pub record IsStoppedWith (status : Status) (settings : Option Settings) (text : 
 abbrev pub IsStoppedAs : Status → Option Settings → List ℕ → Course → Type 0
 IsStoppedAs status settings text (courses.Stopped x) = IsStoppedWith status settings text x
 IsStoppedAs status settings text (courses.Opened x) = ⊥
+IsStoppedAs status settings text (courses.Racing x) = ⊥
 IsStoppedAs status settings text (courses.Worked x) = ⊥
 
 -- the text is compiled and the world is opened
@@ -118,10 +146,20 @@ pub record IsOpenedOf (settings : Settings) (text : List ℕ) (x : Opened) : Typ
   pub settings_are : x.settings ≡ settings
   pub text_is : x.text.items ≡ text
   pub not_checked : settings.mode ≢ Check
+  pub not_judged : settings.mode ≢ Race
   pub not_built : settings.mode ≢ Build
   pub typed : Typed
   pub built : IsBuilt text typed (program_in x.checked) (arc_value x.code)
   pub ready : IsReady x
+
+-- and the run is to be judged
+pub record IsRacingOf (settings : Settings) (text : List ℕ) (x : Racing) : Type 0 where
+  pub settings_are : x.opened.settings ≡ settings
+  pub text_is : x.opened.text.items ≡ text
+  pub mode : settings.mode ≡ Race
+  pub built : IsBuilt text (typed_view x.typed) (program_in x.opened.checked) (arc_value x.opened.code)
+  pub ready : IsReady x.opened
+  pub room : 1184 + 2 * length (name_in (Some settings)) ≤ vec_capacity x.opened.line
 
 -- the text is a code file, its code is loaded, and the world is opened
 pub record IsLoadedOf (settings : Settings) (text : List ℕ) (x : Opened) : Type 0 where
@@ -148,6 +186,7 @@ pub record IsRefusedOf (settings : Settings) (text : List ℕ) (x : Stopped) : T
 abbrev pub IsCourseOf : Settings → List ℕ → Course → Type 0
 IsCourseOf settings text (courses.Stopped x) = IsRefusedOf settings text x
 IsCourseOf settings text (courses.Opened x) = IsOpenedOf settings text x
+IsCourseOf settings text (courses.Racing x) = IsRacingOf settings text x
 IsCourseOf settings text (courses.Worked x) = IsWorkedOf settings text x
 
 -- the bytes are no code file, or one whose code isn't safe for moves
@@ -160,12 +199,14 @@ pub record IsUnloadedOf (settings : Settings) (text : List ℕ) (x : Stopped) : 
 abbrev pub IsLoadingOf : Settings → List ℕ → Course → Type 0
 IsLoadingOf settings text (courses.Stopped x) = IsUnloadedOf settings text x
 IsLoadingOf settings text (courses.Opened x) = IsLoadedOf settings text x
+IsLoadingOf settings text (courses.Racing x) = ⊥
 IsLoadingOf settings text (courses.Worked x) = ⊥
 
 -- what words and file come to
 abbrev pub IsCourse : (words : List (List ℕ)) → (List ℕ → Shelved) → Course → Type 0
 IsCourse words file (courses.Stopped x) = IsStopped words file x
-IsCourse words file (courses.Opened x) = IsOpened words file x
+IsCourse words file (courses.Opened x) = IsToRun words file x
+IsCourse words file (courses.Racing x) = IsToRace words file x
 IsCourse words file (courses.Worked x) = IsWorked words file x
 
 -- a run of what was opened is over
@@ -184,3 +225,28 @@ pub record HasRun (x : Opened) (r : Ran) : Type 0 where
   pub status : r.status ≡ status_of end
   pub output : r.output.items ≡ final.output
   pub line : r.line.items ≡ report_text x.settings.evacuate end final.report
+  pub short : length r.line.items ≤ 1024
+  pub room : vec_capacity r.line ≡ vec_capacity x.line
+
+-- the order of a journal has a run of the tree's program
+abbrev pub HasARun : Typed → List Entry → Type 0
+HasARun typed log = (turns : ℕ) → run (program typed) (start typed) (journal_picks log) ≢ no_run turns
+
+-- a run that is over was judged by this tree, in the order of its journal
+pub record IsJudged (typed : Typed) (ran r : Ran) : Type 0 where
+  pub settings : r.settings ≡ ran.settings
+  pub text : r.text ≡ ran.text
+  pub checked : r.checked ≡ ran.checked
+  pub code : r.code ≡ ran.code
+  pub journal : r.journal ≡ ran.journal
+  pub output : r.output ≡ ran.output
+  pub found : Option RaceEnd
+  pub is_found : IfSome found (IsRaceEnd typed (journal_picks ran.journal.entries))
+  pub status : r.status ≡ status_with (note_of found) ran.status
+  pub line : r.line.items ≡ ran.line.items ++ race_line (name_in (Some ran.settings)) ran.text.items (note_of found)
+
+-- a run of what was opened is over, and was judged
+pub record HasRaced (x : Racing) (r : Ran) : Type 0 where
+  pub ran : Ran
+  pub has_run : HasRun x.opened ran
+  pub judged : IsJudged (typed_view x.typed) ran r

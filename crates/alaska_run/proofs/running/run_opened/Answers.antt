@@ -40,5 +40,7 @@ returns g c =
           (c.small_programs_fit.ensures (arc_value c.args.opened.code) c.args.opened.settings c.requires.fits) c.finish-end.result.journal.entries ends.state (replay_of _ _ _ _ _ world ends.leads);
       status = c.status_of.ensures;
       output = c.into_output.ensures ∙ ap (λ (s : Shared). s.memory.output) ends.shared_is;
+      short = c.push_report.ensures.short;
+      room = c.push_report.ensures.capacity;
       line = c.push_report.ensures.text ∙ ap (λ (r : Report). report_text c.args.opened.settings.evacuate c.finish-end.result.end r) told;
     }
