@@ -19,5 +19,7 @@ returns c = record {
   found = c.find.result;
   is_found = subst (λ (j : Log). IfSome c.find.result (IsRaceEnd (typed_view c.args.typed) (journal_picks j.entries))) c.journal.ensures c.find.ensures;
   status = c.status_with.ensures ∙ ap (λ (n : RaceNote). status_with n c.args.ran.status) c.note_of-note.ensures;
-  line = c.push_race_line.ensures ∙ ap₂ (λ (name : List ℕ) (n : RaceNote). c.args.ran.line.items ++ race_line name c.args.ran.text.items n) c.text_name.ensures c.note_of-note.ensures;
+  line = c.push_race_line.ensures
+      ∙ ap (λ (text : List ℕ). c.args.ran.line.items ++ race_line c.text_name.result.now text c.note_of-note.result) c.deref.ensures.value
+      ∙ ap₂ (λ (name : List ℕ) (n : RaceNote). c.args.ran.line.items ++ race_line name c.args.ran.text.items n) c.text_name.ensures c.note_of-note.ensures;
 }
