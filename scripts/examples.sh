@@ -4,7 +4,7 @@
 # Use: scripts/examples.sh [NAME..]      prints what differs of each that went another way, and how many there were; ends with 0 where none did.
 #   NAME is the name of a file of examples/ without its `.c`; without one all are run.
 # In examples/expected.txt a line `== WORDS` begins a program: its file's name, and then words of the call. Below stand what it prints, and last a line
-# with its status and the first line of standard error. It runs $ALASKA, or else bin/alaska, or else the program that ./alaska builds once without a proof.
+# with its status and the first line of standard error; in mode race one with the last line of standard error more. It runs $ALASKA, or else bin/alaska, or else the program that ./alaska builds once without a proof.
 set -eu
 here=$(cd "$(dirname "$0")/.." && pwd)
 . "$here/scripts/built.sh"
@@ -17,6 +17,7 @@ compare() { # what it is called, its path, further words
   local status=0
   (cd "$here" && timeout 60 "$program" "${@:2}" --entries 100000) >out 2>note || status=$?
   echo "$status $(head -n 1 note)" >>out
+  [[ " $* " != *" --mode race "* ]] || tail -n 1 note >>out
   cmp -s out told && return
   wrong=$((wrong + 1))
   echo "$1:"

@@ -25,17 +25,20 @@ NOTES = {
     0: rb"ended: done -?\d+\n", 2: rb"usage: alaska FILE \[options\]\n", 3: rb".*:\d+:\d+: refused: .*\n", 4: rb"alaska: can't read .*\n",
     5: rb"", 6: rb"ended: trap \w+ \d+\n", 7: rb"ended: all blocked\n", 8: rb"ended: turn limit\n", 9: rb"ended: output limit\n",
     10: rb"ended: stack limit \d+\n", 11: rb"alaska: out of memory\n", 12: rb".*:\d+:\d+: broke C\d+ after \d+ turns\n",
+    13: rb"ended: (done -?\d+|trap \w+ \d+|all blocked|turn limit|output limit|stack limit \d+)\n",
     15: rb"text.c: bad code at \d+\n", 16: rb"text.c: unsafe code at \d+: (NoLook|StaleLook|NotPinned|BadTemp)\n",
 }
 CHECKED = rb"checked: (done -?\d+|all blocked|turns spent) after \d+ turns\n"
 BUILT = rb"built: \d+ bytes\n"
-RAN = 0, 6, 7, 8, 9, 10
+RAN = 0, 6, 7, 8, 9, 10, 13
 REPORT = rb"threads: \d+\nentries: \d+\nbarriers: \d+\nmoved: .*\nlive: .*\nextent: .*\nlast barrier: .*\n(evacuated: \d+ sub-heaps\n)?"
+RACED = rb"race: text\.c:\d+:\d+ and text\.c:\d+:\d+, turns \d+ and \d+\n"
+NO_RACE = rb"race: (none|broke C\d+ after \d+ turns)\n"
 TOKEN = re.compile(r'[A-Za-z_]\w*|\d+|"(?:\\.|[^"\\\n])*"|//[^\n]*|/\*.*?\*/|\s+|[-+<>=!&|]{2}|.', re.S)
 OPTIONS = {
     "workers": "1 2 4 16 0 17", "schedule": "0 7 18446744073709551615 18446744073709551616", "every": "1 3 100 0 1000000",
     "subheap": "4096 65536 16777216 5000", "subheaps": "1 2 16 256 257", "ids": "1 2 1000 1048576 0", "evacuate": "0 1 1 2", "output": "1 3 1000 16777216",
-    "mode": "run check check build load churn walk", "seed": "0 1 99", "size": "1 3 40 4000",
+    "mode": "run check check race race build load churn walk", "seed": "0 1 99", "size": "1 3 40 4000",
 }
 
 # What the drawn statements are made of.
@@ -160,6 +163,10 @@ def judge(program, text, words, more, each):
     except subprocess.TimeoutExpired:
         return None, b"", b"", False
     note = NOTES.get(ran.returncode, rb"(?!)") + REPORT * (ran.returncode in RAN)
+    if ran.returncode == 13:
+        note += RACED
+    elif ran.returncode in RAN and re.search(rb"race", b" ".join(words)):
+        note += rb"(" + NO_RACE + rb")?"
     if ran.returncode == 0 and re.search(rb"check", b" ".join(words)):
         note += b"|" + CHECKED
     if ran.returncode == 0 and re.search(rb"build", b" ".join(words)):

@@ -63,6 +63,13 @@ text 10 '' 'ended: stack limit 0' 'int f(int n){return f(n+1);}int main(void){re
 text 0 '' 'ended: done 0' 'int main(void){int z=0;int a=1/z;int b=a%z;int c=1<<99;return 0;}'
 text 0 '' 'ended: done 2147483647' 'int main(void){int a=2147483647;return a;}'
 
+# The same with evacuations: a sub-heap is emptied for a malloc of its size, and what is wild stays so.
+emptied='int main(void){char *a=malloc(4096);char *b=malloc(64);free(a);char *c=malloc(64);char *d=malloc(4096);printf("%d\n",d!=NULL);return 0;}'
+text 0 1 'evacuated: 1 sub-heaps' "$emptied" --subheap 4096 --subheaps 2 --evacuate 1
+text 0 0 'room 4032' "$emptied" --subheap 4096 --subheaps 2 --evacuate 0
+text 0 '' 'evacuated: 0 sub-heaps' 'int main(void){char *p=malloc(16);p[20]=1;return 0;}' --every 1 --evacuate 1
+text 6 '' 'ended: trap free 9223372036854775808' 'int main(void){char *p=malloc(8);free(p);free(p);return 0;}' --ids 1 --evacuate 1
+
 # The same and others, checked: there is no machine, no stack and no limit but that of turns.
 text 12 '' 'text.c:1:35: broke C5 after 0 turns' 'int main(void){int *p=NULL;return *p;}' --mode check
 text 12 before 'text.c:1:48: broke C5 after 1 turns' 'int main(void){char *p=NULL;printf("before\n");printf("%s",p);return 0;}' --mode check
@@ -76,6 +83,20 @@ text 0 '' 'checked: turns spent after 1000 turns' 'int f(int n){return f(n+1);}i
 text 0 ab 'checked: done 0 after 2 turns' 'int main(void){printf("ab");return 0;}' --mode check --output 1
 text 0 '' 'checked: done 2147483647 after 1 turns' 'int main(void){int a=2147483647;return a;}' --mode check --schedule 18446744073709551615
 
+# The same and others, judged: each runs as it does alone, and turns that weren't done aren't judged.
+racing='int x;int f(void *v){x=1;return 0;}int main(void){thrd_t t;thrd_create(&t,f,NULL);x=2;thrd_join(t,NULL);return 0;}'
+text 13 '' 'race: text.c:1:83 and text.c:1:22, turns 1 and 3' "$racing" --mode race
+text 0 '' 'race: broke C7 after 1 turns' 'int main(void){char *p=malloc(16);p[20]=1;return 0;}' --mode race
+text 0 '' 'race: broke C2 after 0 turns' 'int main(void){int z=0;int a=1/z;return 0;}' --mode race
+text 0 '64 1' 'race: none' 'int f(void *v){return 0;}int main(void){thrd_t t;int k=0;int r=0;while(r==0){r=thrd_create(&t,f,NULL);k++;}printf("%d %d\n",k,r);return 0;}' --mode race
+text 6 '' 'race: none' 'int main(void){char *p=malloc(16);p[100000000]=1;return 0;}' --mode race
+text 6 before 'race: none' 'int main(void){char *p=NULL;printf("before\n");printf("%s",p);return 0;}' --mode race
+text 7 '' 'race: none' 'mtx_t m;int main(void){mtx_init(&m,mtx_plain);mtx_lock(&m);mtx_lock(&m);return 0;}' --mode race
+text 8 '' 'race: none' 'int main(void){while(1);return 0;}' --mode race
+text 9 '' 'race: none' 'int main(void){printf("ab");return 0;}' --mode race --output 1
+text 10 '' 'race: none' 'int f(int n){return f(n+1);}int main(void){return f(0);}' --mode race
+text 3 '' 'text.c:1:23: refused: OutsideSubset 2' 'int main(void){return 1.5;}' --mode race
+
 # Files that can't be read.
 mkdir folder
 file 4 "alaska: can't read folder" folder
@@ -87,6 +108,7 @@ file 4 "alaska: can't read /proc/self/mem" /proc/self/mem
 file 4 "alaska: can't read folder" folder --mode check
 file 4 "alaska: can't read missing.c" missing.c --mode check
 file 4 "alaska: can't read " '' --mode check
+file 4 "alaska: can't read missing.c" missing.c --mode race
 for mode in build load; do
   file 4 "alaska: can't read folder" folder --mode $mode
   file 4 "alaska: can't read missing.c" missing.c --mode $mode
@@ -109,8 +131,10 @@ prints=("${alaska[@]}" prints.c "${small[@]}")
 "${prints[@]}" >/dev/full 2>note; judge 'a full standard output' 5 $? - ''
 "${prints[@]}" >&- 2>note; judge 'a closed standard output' 5 $? - ''
 "${prints[@]}" --mode check >/dev/full 2>note; judge 'a full standard output of a check' 5 $? - ''
+"${prints[@]}" --mode race >/dev/full 2>note; judge 'a full standard output of a race' 5 $? - ''
 "${prints[@]}" >out 2>/dev/full; judge 'a full standard error' 5 $? 42 -
 "${prints[@]}" --mode check >out 2>/dev/full; judge 'a full standard error of a check' 5 $? 42 -
+"${prints[@]}" --mode race >out 2>/dev/full; judge 'a full standard error of a race' 5 $? 42 -
 "${prints[@]}" >out 2>&-; judge 'a closed standard error' 5 $? 42 -
 "${prints[@]}" <&- >&- 2>&-; judge 'nothing is open' 5 $? - -
 { sleep 1; "${prints[@]}" 2>note; echo $? >status; } | true
@@ -150,6 +174,7 @@ code() { # status what-is-printed what-the-report-has file words..
 
 build 'int main(void){int *p=malloc(4);*p=41;*p=*p+1;printf("%d\n",*p);free(p);return 0;}' heap.alsk
 code 0 42 'ended: done 0' heap.alsk
+code 0 42 'evacuated: 0 sub-heaps' heap.alsk --evacuate 1
 build 'int main(void){char *p=malloc(16);p[100000000]=1;return 0;}' trap.alsk
 code 6 '' 'ended: trap store 104198400' trap.alsk
 build 'mtx_t m;int main(void){mtx_init(&m,mtx_plain);mtx_lock(&m);mtx_lock(&m);return 0;}' blocked.alsk
@@ -260,7 +285,11 @@ for mode in build load; do
   words text.c --mode $mode --entries 999
 done
 words text.c --mode Build
-words text.c --mode race
+words --mode race
+words text.c --mode Race
+words text.c --mode race --seed 1
+words text.c --mode race --size 3
+words text.c --mode race --entries 999
 words --mode churn --size 3
 words --mode churn --seed 1 --size 0
 words text.c --mode churn --seed 1 --size 3

@@ -5,7 +5,7 @@
 #   scripts/map.sh --read       prints each file of definitions that `Headline` and `Answers` of alaska_run lead to, with its lines, in the order in
 #     which they are best read: by the steps of the table, and in a crate as they are come to.
 # A crate is described in the `//!` lines at the head of its src/lib.rt or src/main.rt: what it holds, then `Promises upward: ..` or
-# `Promises nothing upward: ..`, then `Stands on ..`. Of the crates that crates.txt names for it, the table has those that no other of them stands on.
+# `Promises nothing upward: ..`, then `Stands on ..`; the table has the first. Of the crates that crates.txt names for it, the table has those that no other of them stands on.
 # Files of definitions are come to by the lines `use Rattle.CRATE.specs...` of others, those of this repository alone; of a type that
 # stands in src/ (a use of `specs.declared`) --read names the file.
 set -eu
@@ -18,7 +18,7 @@ exec python3 /dev/fd/3 "${1:---write}" 3<<'END'
 import collections, os, re, sys
 
 MAP, CLAIM = "docs/ARCHITECTURE.md", "docs/HEADLINE.md"
-MAP_HEAD = ["| Crate | Holds | Promises upward | Stands on |", "|---|---|---|---|"]
+MAP_HEAD = ["| Crate | Holds | Stands on |", "|---|---|---|"]
 READ_HEAD = ["| Step | In | Files | Lines |", "|---|---|---|---|"]
 ROOTS = ["crates/alaska_run/specs/Headline.antt", "crates/alaska_run/specs/Answers.antt"]
 
@@ -28,14 +28,16 @@ STEPS = [
     ("what a call promises", "alaska_run"),
     ("C's numbers and rules, and the entries of a journal", "ak_words ak_trace"),
     ("which typed tree a text has, or why it is refused", "c_lex c_tree c_grammar c_typing"),
+    ("which turns of threads race", "race_rules"),
     ("what the typed tree does, turn by turn, over named blocks", "block_store c_meaning"),
     ("what code is, and that it keeps the turns", "struct_ir lower_forms lower_turns pin_flow pin_checker compile_passes"),
     ("the machine, whose objects move",
      "handle_words handle_table flat_words flat_store sub_heaps move_plan evacuate arena_meaning flat_meaning"),
-    ("which journals a run may have", "flat_rules flat_threads flat_machine"),
+    ("which journals a run may have", "flat_rules world_rules flat_threads flat_machine"),
     ("what a journal stands for", "flat_simulation flat_replay"),
     ("what the words want, what is read, and what is written", "run_words run_churn ak_io run_edges run_notes"),
     ("what mode check finds", "source_tree source_state block_meaning rule_check"),
+    ("what mode race finds", "race_check"),
     ("what a code file is, as modes build and load have it", "formats code_file code_save code_load"),
 ]
 
@@ -62,23 +64,22 @@ def all_below(crate, below, known):
             known[crate] |= all_below(part, below, known)
     return known[crate]
 
-# What the head of a crate says: what it holds and what it promises. Where it lacks a part that is a fault.
+# What the head of a crate says that it holds. Where the head lacks a part that is a fault.
 def head_of(crate):
     path = next(path for path in (f"crates/{crate}/src/lib.rt", f"crates/{crate}/src/main.rt") if os.path.exists(path))
     head = " ".join(line[3:].strip() for line in lines_of(path) if line.startswith("//!"))
-    parts = re.fullmatch(r"(.+?) Promises (nothing )?upward: (.+?) Stands on .+", head)
+    parts = re.fullmatch(r"(.+?) Promises (?:nothing )?upward: .+? Stands on .+", head)
     if not parts:
         sys.exit(f"{path}: its head isn't what it holds, `Promises upward: ..` and `Stands on ..`")
-    return parts[1], ("nothing: " if parts[2] else "") + parts[3]
+    return parts[1]
 
 # The table of the crates, in the order that is given, and behind these in that of crates.txt.
 def crate_rows(order):
     below, known = crates(), {}
     rows = []
     for crate in [crate for crate in order if crate in below] + [crate for crate in below if crate not in order]:
-        holds, promises = head_of(crate)
         parts = [part for part in below[crate] if not any(part in all_below(other, below, known) for other in below[crate])]
-        rows.append("| " + " | ".join(cell.replace("|", "\\|") for cell in (crate, holds, promises, ", ".join(parts) or "std")) + " |")
+        rows.append("| " + " | ".join(cell.replace("|", "\\|") for cell in (crate, head_of(crate), ", ".join(parts) or "std")) + " |")
     return MAP_HEAD + rows
 
 # ---- the definitions

@@ -1,7 +1,8 @@
 #!/usr/bin/env bash
-# Refuses each allocation of a run in turn, over four programs: a print, two threads that count under a mutex, one that counts the words of a
-# text in objects, and three threads on three workers that fill a table, with barriers between. Where an allocation is refused the status is 11,
-# nothing is printed, and standard error has `alaska: out of memory` and a newline.
+# Refuses each allocation of a run in turn, over five programs: a print, two threads that count under a mutex, one that counts the words of a
+# text in objects, three threads on three workers that fill a table, with barriers between, and two threads in mode race. Where an allocation is
+# refused the status is 11, nothing is printed, and standard error has `alaska: out of memory` and a newline; or, where that comes behind a run in
+# mode race, the output and the report are the usual ones, and the line of the race is `race: not judged`.
 # From some number on, since the world was opened, no run changes: that is looked at for the 50 numbers behind the last that was refused.
 # Use: scripts/refused.sh [STRIDE]      prints for each program how many allocations were refused, and ends with 0 where each run was as it must be.
 #   With a STRIDE only each STRIDE-th is refused.
@@ -85,6 +86,14 @@ report() { # words..
   esac
 }
 
+# Whether a run that was refused an allocation ended so.
+is_refused() { # words..
+  if [ ! -s out ] && [ "$(cat note; echo .)" = $'alaska: out of memory\n.' ]; then
+    return 0
+  fi
+  [[ " $* " == *" --mode race "* ]] && cmp -s out usual.out && sed '$s/.*/race: not judged/' usual.note | cmp -s note -
+}
+
 each() { # file words..
   local name number=1 refused=0 last=none usual=0 status=0
   name=$(basename "$1")
@@ -98,7 +107,7 @@ each() { # file words..
     if [ $status = 0 ] && cmp -s out usual.out && cmp -s reported usual.note; then
       usual=$((usual + 1))
     else
-      [ $status = 11 ] && [ ! -s out ] && [ "$(cat note; echo .)" = $'alaska: out of memory\n.' ] || fault "$name" $number "status $status, $(head -n 1 note)"
+      [ $status = 11 ] && is_refused "$@" || fault "$name" $number "status $status, $(head -n 1 note)"
       [ $usual = 0 ] || fault "$name" $number "a run is changed behind one that is not"
       refused=$((refused + 1)) last=$number usual=0
     fi
@@ -112,4 +121,5 @@ each "$here/examples/answer.c" "${few[@]}"
 each "$here/examples/threads.c" "${few[@]}"
 each "$here/examples/words.c" "${few[@]}"
 each "$here/crates/alaska_rows/data/table.c" --entries 200000 --ids 400 --workers 3 --every 500
+each "$here/crates/alaska_rows/data/joined.c" "${few[@]}" --mode race
 [ $wrong = 0 ]

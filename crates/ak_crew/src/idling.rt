@@ -46,7 +46,7 @@ impl Idling {
         } else {
             self.parker
                 .park_timeout(rt, Duration::from_micros(self.pause));
-            self.pause = (self.pause * 2).min(LONGEST);
+            self.pause = self.pause.min(LONGEST / 2) * 2;
         }
     }
 }

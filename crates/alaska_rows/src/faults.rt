@@ -51,7 +51,8 @@ const SECOND_CALLS: Failing = Failing {
     note: Some(2),
 };
 
-// Texts: one that prints, one that prints nothing, one that is refused, and one that prints and then stores through null.
+// Texts: one that prints, one that prints nothing, one that is refused, one that prints and then stores through null, and one that prints and in
+// which two accesses race.
 const PRINTS: &str = "int main(void){int a=6;int b=7;printf(\"%d\\n\",a*b);return a;}";
 
 const SILENT: &str = "int main(void){}";
@@ -60,7 +61,12 @@ const REFUSED: &str = "int main(void){return 1.5;}";
 
 const TRAPS: &str = "int main(void){printf(\"hi\\n\");int *p=NULL;*p=1;return 0;}";
 
+const RACES: &str =
+    "int x;int f(void *v){x=1;return 0;}int main(void){thrd_t t;thrd_create(&t,f,NULL);x=2;printf(\"%d\\n\",x);thrd_join(t,NULL);return 0;}";
+
 const RUN: Row = Row("alaska a.c", "all");
+
+const RACE: Row = Row("alaska a.c --mode race", "ended race");
 
 const CHURN: Row = Row("alaska --mode churn --seed 1 --size 3", "ended live");
 
@@ -68,7 +74,7 @@ const CHURN: Row = Row("alaska --mode churn --seed 1 --size 3", "ended live");
 #[derive(Clone, Copy)]
 struct Fault(Row, &'static str, Failing);
 
-const FAULTS: [Fault; 22] = [
+const FAULTS: [Fault; 25] = [
     Fault(RUN, PRINTS, SHELF),
     Fault(RUN, PRINTS, OUT),
     Fault(RUN, PRINTS, NOTE),
@@ -91,6 +97,9 @@ const FAULTS: [Fault; 22] = [
     Fault(CHURN, PRINTS, SHELF),
     Fault(CHURN, PRINTS, OUT),
     Fault(CHURN, PRINTS, NOTE),
+    Fault(RACE, RACES, NONE_FAILS),
+    Fault(RACE, RACES, OUT),
+    Fault(RACE, RACES, NOTE),
 ];
 
 // Which call of this one fails.

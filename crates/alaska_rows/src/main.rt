@@ -34,7 +34,7 @@ use std::io;
 #[derive(Clone, Copy)]
 struct Row(&'static str, &'static str);
 
-const ROWS: [Row; 90] = [
+const ROWS: [Row; 107] = [
     Row("alaska nothing.c", "all"),
     Row("alaska answer.c", "all"),
     Row("alaska heap.c", "ended live"),
@@ -170,6 +170,38 @@ const ROWS: [Row; 90] = [
     Row("alaska absent.c --mode check", "all"),
     Row("alaska answer.c --mode check --seed 1", "all"),
     Row("alaska answer.c --mode race", "all"),
+    Row("alaska answer.c --mode race --seed 1", "all"),
+    Row("alaska deep_128.c --mode race", "all"),
+    Row("alaska raced.c --mode race", "ended race"),
+    Row("alaska counter.c --mode race", "ended race"),
+    Row(
+        "alaska counter.c --mode race --workers 2 --every 8",
+        "ended race",
+    ),
+    Row(
+        "alaska counter.c --mode race --workers 2 --every 8 --schedule 1",
+        "ended race",
+    ),
+    Row(
+        "alaska counter.c --mode race --workers 2 --every 8 --schedule 7",
+        "ended race",
+    ),
+    Row(
+        "alaska added.c --mode race --workers 2 --every 8",
+        "ended race",
+    ),
+    Row("alaska flag.c --mode race", "ended race"),
+    Row(
+        "alaska flag.c --mode race --workers 2 --every 8 --schedule 1",
+        "ended race",
+    ),
+    Row("alaska bare_flag.c --mode race", "ended race"),
+    Row("alaska joined.c --mode race", "ended race"),
+    Row("alaska freed.c --mode race", "ended race"),
+    Row("alaska two_locks.c --mode race", "ended race"),
+    Row("alaska copied.c --mode race", "ended race"),
+    Row("alaska past_end.c --mode race", "ended race"),
+    Row("alaska null_store.c --mode race", "ended race"),
 ];
 
 // The call that is made twice: what it writes is the same at each.

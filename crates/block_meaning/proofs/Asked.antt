@@ -20,6 +20,8 @@ use Rattle.c_tree.specs.Typed as tree
 use Rattle.c_meaning.specs.Control as control
 use Rattle.c_meaning.specs.Turns as turns
 use Rattle.c_meaning.specs.Turns.{turn}
+use Rattle.c_meaning.specs.Touches.{touches_of}
+use Rattle.race_rules.specs.declared.touch.Touch.{Touch}
 use Rattle.source_state.specs.declared.world.SharedAction.TheVariants as acts
 use Rattle.source_state.specs.declared.world.World.{World}
 use Rattle.source_state.specs.Worlds.{world_of, printed_of}
@@ -41,17 +43,17 @@ use Rattle.block_meaning.proofs.Renewing.{last_is, Renewal, renewal}
 abbrev Goes : Type 0
 Goes = Option Value → actions.World → Turn control.Control
 
--- by the point at which it goes on
-abbrev goes_on : turns.TurnContext → List control.Variable → (Option Value → control.TurnStart) → Goes
-goes_on h locals point v next = turns.stays h locals (point v) next
+-- by the point at which it goes on, and what it touched
+abbrev goes_on : turns.TurnContext → List control.Variable → (Option Value → control.TurnStart) → List Touch → Goes
+goes_on h locals point touched v next = turns.having_touched touched (turns.stays h locals (point v) next)
 
 -- an action of which nothing is chosen asks for nothing
-settled_asks : (w : actions.World) (place : ℕ) (h : turns.TurnContext) (locals : List control.Variable) (point : Option Value → control.TurnStart) (reached : List actions.Reached) (d : actions.Done)
-    → AreAsked (wish_by w (Some (turns.on_done place (goes_on h locals point) (actions.telling reached d))) (Some unfit) (Some unfit)) None
-settled_asks w place h locals point reached (actions.went v next) = refl
-settled_asks w place h locals point reached actions.blocked = refl
-settled_asks w place h locals point reached actions.unfit = refl
-settled_asks w place h locals point reached (actions.broke rule) = refl
+settled_asks : (w : actions.World) (place : ℕ) (h : turns.TurnContext) (locals : List control.Variable) (point : Option Value → control.TurnStart) (touched : List Touch) (reached : List actions.Reached) (d : actions.Done)
+    → AreAsked (wish_by w (Some (turns.on_done place (goes_on h locals point touched) (actions.telling reached d))) (Some unfit) (Some unfit)) None
+settled_asks w place h locals point touched reached (actions.went v next) = refl
+settled_asks w place h locals point touched reached actions.blocked = refl
+settled_asks w place h locals point touched reached actions.unfit = refl
+settled_asks w place h locals point touched reached (actions.broke rule) = refl
 
 same_length : (n : ℕ) → (n == n) ≡ true
 same_length n = grind arith
@@ -60,9 +62,9 @@ longer : (n m : ℕ) → m ≡ n + 1 → (m == n) ≡ false
 longer n m e = grind arith
 
 -- an allocation that gets what it asks for, where that fits, and else takes no block
-abbrev got_block : turns.TurnContext → List control.Variable → (Option Value → control.TurnStart) → (place : ℕ) → actions.World → List actions.Reached → Blocks → Bool → Turn control.Control
-got_block h locals point place w reached blocks fits =
-    turns.on_done place (goes_on h locals point) (actions.telling reached (if fits then actions.went (Some (values.Pointer (To (length w.blocks) 0))) (actions.with_blocks w blocks) else actions.unfit))
+abbrev got_block : turns.TurnContext → List control.Variable → (Option Value → control.TurnStart) → List Touch → (place : ℕ) → actions.World → List actions.Reached → Blocks → Bool → Turn control.Control
+got_block h locals point touched place w reached blocks fits =
+    turns.on_done place (goes_on h locals point touched) (actions.telling reached (if fits then actions.went (Some (values.Pointer (To (length w.blocks) 0))) (actions.with_blocks w blocks) else actions.unfit))
 
 min_fits : (n : ℕ) → nat_lt n (2 ^ 32) ≡ true → min n (2 ^ 64 - 1) ≡ n
 min_fits n e = grind arith
@@ -71,34 +73,34 @@ min_large : (n : ℕ) → nat_lt n (2 ^ 32) ≡ false → 2 ^ 32 ≤ min n (2 ^ 
 min_large n e = grind arith
 
 -- it asks for its bytes
-allocation_asks : (h : turns.TurnContext) (locals : List control.Variable) (point : Option Value → control.TurnStart) (place : ℕ) (w : actions.World) (blocks : Blocks) (reached : List actions.Reached) (new : Blocks) (size : ℕ) (fits : Bool) (own : control.Control) (after : actions.World)
+allocation_asks : (h : turns.TurnContext) (locals : List control.Variable) (point : Option Value → control.TurnStart) (touched : List Touch) (place : ℕ) (w : actions.World) (blocks : Blocks) (reached : List actions.Reached) (new : Blocks) (size : ℕ) (fits : Bool) (own : control.Control) (after : actions.World)
     → nat_lt size (2 ^ 32) ≡ fits → size_of_last new ≡ size
-    → AreAsked (wish_by_got w (Some (got_block h locals point place (actions.with_blocks w blocks) reached new fits)) (Some (went own after))) (Some (min size (2 ^ 64 - 1)))
-allocation_asks h locals point place w blocks reached new size true own after e f =
+    → AreAsked (wish_by_got w (Some (got_block h locals point touched place (actions.with_blocks w blocks) reached new fits)) (Some (went own after))) (Some (min size (2 ^ 64 - 1)))
+allocation_asks h locals point touched place w blocks reached new size true own after e f =
     subst (λ (b : Bool). AreAsked (if b then some_bytes (size_of_last new) else a_thread) (Some (min size (2 ^ 64 - 1)))) (sym (same_length (length w.threads)))
     (ap Some (min_fits size e ∙ sym f))
-allocation_asks h locals point place w blocks reached new size false own after e f = min_large size e
+allocation_asks h locals point touched place w blocks reached new size false own after e f = min_large size e
 
 -- what comes of a realloc that is told an answer
-abbrev renewing : turns.TurnContext → List control.Variable → (Option Value → control.TurnStart) → (place : ℕ) → actions.World → List actions.Reached → Answer → (size : ℕ) → Result Blocks Rule → Turn control.Control
-renewing h locals point place w reached answer size r = turns.on_done place (goes_on h locals point) (actions.telling reached (actions.under answer (actions.renews w size r)))
+abbrev renewing : turns.TurnContext → List control.Variable → (Option Value → control.TurnStart) → List Touch → (place : ℕ) → actions.World → List actions.Reached → Answer → (size : ℕ) → Result Blocks Rule → Turn control.Control
+renewing h locals point touched place w reached answer size r = turns.on_done place (goes_on h locals point touched) (actions.telling reached (actions.under answer (actions.renews w size r)))
 
 -- a realloc asks for its bytes, unless it breaks a rule
-renewal_asks : (told : Answer → turns.TurnContext) (locals : List control.Variable) (point : Option Value → control.TurnStart) (place : ℕ) (w : actions.World) (blocks : Blocks) (reached : Answer → List actions.Reached) (size : ℕ) (r f : Result Blocks Rule) → Renewal size r f
-    → AreAsked (wish_by w (Some (renewing (told answers.Plain) locals point place (actions.with_blocks w blocks) (reached answers.Plain) answers.Plain size r))
-    (Some (renewing (told answers.Got) locals point place (actions.with_blocks w blocks) (reached answers.Got) answers.Got size r))
-    (Some (renewing (told answers.None) locals point place (actions.with_blocks w blocks) (reached answers.None) answers.None size r))) (unless_broken f size)
-renewal_asks told locals point place w blocks reached size (Err rule) (Err other) e = refl
-renewal_asks told locals point place w blocks reached size (Ok new) (Err other) e = absurd e
-renewal_asks told locals point place w blocks reached size (Err rule) (Ok left) e = absurd e
-renewal_asks told locals point place w blocks reached size (Ok new) (Ok left) e =
-    allocation_asks (told answers.Got) locals point place w blocks (reached answers.Got) new size (nat_lt size (2 ^ 32)) _ _ refl e
+renewal_asks : (told : Answer → turns.TurnContext) (locals : List control.Variable) (point : Option Value → control.TurnStart) (touched : Answer → List Touch) (place : ℕ) (w : actions.World) (blocks : Blocks) (reached : Answer → List actions.Reached) (size : ℕ) (r f : Result Blocks Rule) → Renewal size r f
+    → AreAsked (wish_by w (Some (renewing (told answers.Plain) locals point (touched answers.Plain) place (actions.with_blocks w blocks) (reached answers.Plain) answers.Plain size r))
+    (Some (renewing (told answers.Got) locals point (touched answers.Got) place (actions.with_blocks w blocks) (reached answers.Got) answers.Got size r))
+    (Some (renewing (told answers.None) locals point (touched answers.None) place (actions.with_blocks w blocks) (reached answers.None) answers.None size r))) (unless_broken f size)
+renewal_asks told locals point touched place w blocks reached size (Err rule) (Err other) e = refl
+renewal_asks told locals point touched place w blocks reached size (Ok new) (Err other) e = absurd e
+renewal_asks told locals point touched place w blocks reached size (Err rule) (Ok left) e = absurd e
+renewal_asks told locals point touched place w blocks reached size (Ok new) (Ok left) e =
+    allocation_asks (told answers.Got) locals point (touched answers.Got) place w blocks (reached answers.Got) new size (nat_lt size (2 ^ 32)) _ _ refl e
 
 -- a new thread asks for no bytes
-start_asks : (h : turns.TurnContext) (locals : List control.Variable) (point : Option Value → control.TurnStart) (place : ℕ) (w : actions.World) (before : Blocks) (function : ℕ) (argument : Ptr) (reached : List actions.Reached) (r : Result Blocks Rule) (refused : Option (Turn control.Control))
-    → AreAsked (wish_by_got w (Some (turns.on_done place (goes_on h locals point) (actions.telling reached (actions.starts (actions.with_blocks w before) function argument r)))) refused) None
-start_asks h locals point place w before function argument reached (Err rule) refused = refl
-start_asks h locals point place w before function argument reached (Ok blocks) refused =
+start_asks : (h : turns.TurnContext) (locals : List control.Variable) (point : Option Value → control.TurnStart) (touched : List Touch) (place : ℕ) (w : actions.World) (before : Blocks) (function : ℕ) (argument : Ptr) (reached : List actions.Reached) (r : Result Blocks Rule) (refused : Option (Turn control.Control))
+    → AreAsked (wish_by_got w (Some (turns.on_done place (goes_on h locals point touched) (actions.telling reached (actions.starts (actions.with_blocks w before) function argument r)))) refused) None
+start_asks h locals point touched place w before function argument reached (Err rule) refused = refl
+start_asks h locals point touched place w before function argument reached (Ok blocks) refused =
     subst (λ (b : Bool). AreAsked (if b then some_bytes (size_of_last blocks) else a_thread) None) (sym (longer (length w.threads) (length (w.threads ++ actions.beginning function argument ∷ [])) (length_push w.threads (actions.beginning function argument)))) refl
 
 -- what ends a turn, under an answer
@@ -131,24 +133,24 @@ asks p thread function callers (pendings.Enter number args k) locals blocks w =
 asks p thread function callers (pendings.Leave v) locals blocks w = leave_asks (told_in p thread function callers answers.Plain) w (turns.without_blocks locals (actions.with_blocks w blocks)) (turns.result_of_call (told_in p thread function callers answers.Plain) v) callers
     (Some (ended_under p thread function callers (pendings.Leave v) locals blocks w answers.Got)) (Some (ended_under p thread function callers (pendings.Leave v) locals blocks w answers.None)) refl
 asks p thread function callers pendings.Unfit locals blocks w = refl
-asks p thread function callers (pendings.Act place (acts.Load at how) next) locals blocks w = settled_asks w place (told_in p thread function callers answers.Plain) locals (point_of next) _ (actions.gives (actions.with_blocks w blocks) (loaded blocks at how))
-asks p thread function callers (pendings.Act place (acts.Store at v) next) locals blocks w = settled_asks w place (told_in p thread function callers answers.Plain) locals (point_of next) _ (actions.changes (actions.with_blocks w blocks) (stored blocks at v))
-asks p thread function callers (pendings.Act place (acts.Copy to from n align same) next) locals blocks w = settled_asks w place (told_in p thread function callers answers.Plain) locals (point_of next) _ (actions.changes (actions.with_blocks w blocks) (copied blocks to from n align same))
-asks p thread function callers (pendings.Act place (acts.Allocate size first) next) locals blocks w =
-    allocation_asks (told_in p thread function callers answers.Got) locals (point_of next) place w blocks [] (made blocks size kinds.Heap first) size (nat_lt size (2 ^ 32)) _ _ refl (last_is blocks size first)
-asks p thread function callers (pendings.Act place (acts.Reallocate at size) next) locals blocks w =
-    renewal_asks (told_in p thread function callers) locals (point_of next) place w blocks (λ answer. actions.renew_reaches (actions.with_blocks w blocks) answer at size) size (renewed blocks at size) (freed blocks at) (renewal blocks at size)
-asks p thread function callers (pendings.Act place (acts.Free at) next) locals blocks w = settled_asks w place (told_in p thread function callers answers.Plain) locals (point_of next) _ (actions.changes (actions.with_blocks w blocks) (freed blocks at))
-asks p thread function callers (pendings.Act place (acts.Change at how by) next) locals blocks w = settled_asks w place (told_in p thread function callers answers.Plain) locals (point_of next) _ (actions.changes_number (actions.with_blocks w blocks) (changed blocks at by.ty how by.value))
-asks p thread function callers (pendings.Act place (acts.Compare at want new) next) locals blocks w = settled_asks w place (told_in p thread function callers answers.Plain) locals (point_of next) _ (actions.compares (actions.with_blocks w blocks) (compared blocks at want new.ty new.value))
-asks p thread function callers (pendings.Act place (acts.Print all) next) locals blocks w = settled_asks w place (told_in p thread function callers answers.Plain) locals (point_of next) _ (actions.prints (actions.with_blocks w blocks) (actions.all_bytes blocks (map printed_of all.items)))
-asks p thread function callers (pendings.Act place (acts.Lock at) next) locals blocks w = settled_asks w place (told_in p thread function callers answers.Plain) locals (point_of next) _ (actions.changes_or_waits (actions.with_blocks w blocks) (locked blocks at thread))
-asks p thread function callers (pendings.Act place (acts.Unlock at) next) locals blocks w = settled_asks w place (told_in p thread function callers answers.Plain) locals (point_of next) _ (actions.changes (actions.with_blocks w blocks) (unlocked blocks at thread))
-asks p thread function callers (pendings.Act place (acts.Destroy at) next) locals blocks w = settled_asks w place (told_in p thread function callers answers.Plain) locals (point_of next) _ (actions.passes (actions.with_blocks w blocks) (destroyed blocks at))
-asks p thread function callers (pendings.Act place (acts.Start to start argument) next) locals blocks w =
-    start_asks (told_in p thread function callers answers.Got) locals (point_of next) place w blocks start argument _ (stored blocks to (actions.next_number (actions.with_blocks w blocks))) _
-asks p thread function callers (pendings.Act place (acts.Join number to) next) locals blocks w = settled_asks w place (told_in p thread function callers answers.Plain) locals (point_of next) _ (actions.joined_by (actions.with_blocks w blocks) thread number to)
-asks p thread function callers (pendings.Act place (acts.Finish value) next) locals blocks w = refl
+asks p thread function callers (pendings.Act site (acts.Load at how) next) locals blocks w = settled_asks w site.place (told_in p thread function callers answers.Plain) locals (point_of next) _ _ (actions.gives (actions.with_blocks w blocks) (loaded blocks at how))
+asks p thread function callers (pendings.Act site (acts.Store at v) next) locals blocks w = settled_asks w site.place (told_in p thread function callers answers.Plain) locals (point_of next) _ _ (actions.changes (actions.with_blocks w blocks) (stored blocks at v))
+asks p thread function callers (pendings.Act site (acts.Copy to from n align same) next) locals blocks w = settled_asks w site.place (told_in p thread function callers answers.Plain) locals (point_of next) _ _ (actions.changes (actions.with_blocks w blocks) (copied blocks to from n align same))
+asks p thread function callers (pendings.Act site (acts.Allocate size first) next) locals blocks w =
+    allocation_asks (told_in p thread function callers answers.Got) locals (point_of next) _ site.place w blocks [] (made blocks size kinds.Heap first) size (nat_lt size (2 ^ 32)) _ _ refl (last_is blocks size first)
+asks p thread function callers (pendings.Act site (acts.Reallocate at size) next) locals blocks w =
+    renewal_asks (told_in p thread function callers) locals (point_of next) (λ answer. touches_of site.place (actions.with_blocks w blocks) answer site.atomic (actions.reallocate at size)) site.place w blocks (λ answer. actions.renew_reaches (actions.with_blocks w blocks) answer at size) size (renewed blocks at size) (freed blocks at) (renewal blocks at size)
+asks p thread function callers (pendings.Act site (acts.Free at) next) locals blocks w = settled_asks w site.place (told_in p thread function callers answers.Plain) locals (point_of next) _ _ (actions.changes (actions.with_blocks w blocks) (freed blocks at))
+asks p thread function callers (pendings.Act site (acts.Change at how by) next) locals blocks w = settled_asks w site.place (told_in p thread function callers answers.Plain) locals (point_of next) _ _ (actions.changes_number (actions.with_blocks w blocks) (changed blocks at by.ty how by.value))
+asks p thread function callers (pendings.Act site (acts.Compare at want new) next) locals blocks w = settled_asks w site.place (told_in p thread function callers answers.Plain) locals (point_of next) _ _ (actions.compares (actions.with_blocks w blocks) (compared blocks at want new.ty new.value))
+asks p thread function callers (pendings.Act site (acts.Print all) next) locals blocks w = settled_asks w site.place (told_in p thread function callers answers.Plain) locals (point_of next) _ _ (actions.prints (actions.with_blocks w blocks) (actions.all_bytes blocks (map printed_of all.items)))
+asks p thread function callers (pendings.Act site (acts.Lock at) next) locals blocks w = settled_asks w site.place (told_in p thread function callers answers.Plain) locals (point_of next) _ _ (actions.changes_or_waits (actions.with_blocks w blocks) (locked blocks at thread))
+asks p thread function callers (pendings.Act site (acts.Unlock at) next) locals blocks w = settled_asks w site.place (told_in p thread function callers answers.Plain) locals (point_of next) _ _ (actions.changes (actions.with_blocks w blocks) (unlocked blocks at thread))
+asks p thread function callers (pendings.Act site (acts.Destroy at) next) locals blocks w = settled_asks w site.place (told_in p thread function callers answers.Plain) locals (point_of next) _ _ (actions.passes (actions.with_blocks w blocks) (destroyed blocks at))
+asks p thread function callers (pendings.Act site (acts.Start to start argument) next) locals blocks w =
+    start_asks (told_in p thread function callers answers.Got) locals (point_of next) _ site.place w blocks start argument _ (stored blocks to (actions.next_number (actions.with_blocks w blocks))) _
+asks p thread function callers (pendings.Act site (acts.Join number to) next) locals blocks w = settled_asks w site.place (told_in p thread function callers answers.Plain) locals (point_of next) _ _ (actions.joined_by (actions.with_blocks w blocks) thread number to)
+asks p thread function callers (pendings.Act site (acts.Finish value) next) locals blocks w = refl
 
 -- the same of turns that are those
 same_asks : (w : actions.World) (a b c a' b' c' : Turn control.Control) (n m : Option ℕ) → a ≡ a' → b ≡ b' → c ≡ c' → m ≡ n

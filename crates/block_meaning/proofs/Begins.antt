@@ -57,5 +57,5 @@ begun_at p function argument found own e b =
 
 -- the same of a function, part by part
 pub begun_as : (f : SharedFunc) (function : ℕ) (argument : Ptr) (args : List Value) (locals : List control.Variable) (k : control.Todo) → args ≡ arguments_if f.params argument → locals ≡ first_locals (func_of f) args → k ≡ control.then_row (row_of f.body.value) control.leaves
-    → ◌≡◌ {A = control.Control} (record { function = function; locals = locals; point = control.begins k; callers = [] }) (begins_if function argument (Some (func_of f)))
+    → ◌≡◌ {A = control.Control} (record { function = function; locals = locals; point = control.begins k; callers = []; touched = [] }) (begins_if function argument (Some (func_of f)))
 begun_as f function argument args locals k e g h = rw (g, h, e) refl

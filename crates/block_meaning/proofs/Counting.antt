@@ -16,10 +16,11 @@ use Rattle.block_store.specs.Runs.{Turn, went, ended, blocked, unfit, broke}
 use Rattle.c_tree.specs.Typed as tree
 use Rattle.c_meaning.specs.Control as control
 use Rattle.c_meaning.specs.Control.{Control, Variable, Wait, TurnStart, Caller, Callee, wanted, dropped}
-use Rattle.c_meaning.specs.Library.{action_of, value_of_call}
+use Rattle.c_meaning.specs.Library.{action_of, value_of_call, names_atomic}
 use Rattle.c_meaning.specs.Values as reads
-use Rattle.c_meaning.specs.Values.{access_of_type, element_size, truth_of, int_of, Unary, Binary}
-use Rattle.c_meaning.specs.Turns.{TurnContext, Now, Does, WayOfUse, Way, on_ok, plainly, stays, on_done, acts, after_call, variable_at, begins_in, enters, calls_library, calls, result_of_call, number_in, returns_to, leaves_call, without_blocks, pointer_in, read_way, only_way, second_way, first_way, second_test_way, is_same, first_test_way, choice_way, argument_way, reads_variable, finds_variable, literal_block, size_of_elements, run, run_node, run_place, run_place_node, run_arguments}
+use Rattle.c_meaning.specs.Touches.{touches_of}
+use Rattle.c_meaning.specs.Values.{access_of_type, is_atomic, element_size, truth_of, int_of, Unary, Binary}
+use Rattle.c_meaning.specs.Turns.{TurnContext, Now, Does, WayOfUse, Way, on_ok, plainly, stays, having_touched, on_done, acts, after_call, variable_at, begins_in, enters, calls_library, calls, result_of_call, number_in, returns_to, leaves_call, without_blocks, pointer_in, read_way, only_way, second_way, first_way, second_test_way, is_same, first_test_way, choice_way, argument_way, reads_variable, finds_variable, literal_block, size_of_elements, run, run_node, run_place, run_place_node, run_arguments}
 use Rattle.block_meaning.specs.Counts.{in_row, reached, reached_by, Fits, FitsUse, FitsWait, FitsPoint, FitsCallers, FitsControl, HasFewDeclarations}
 use Rattle.block_meaning.proofs.Small.{Small, small_acted, without_blocks_length}
 
@@ -94,10 +95,10 @@ on_done_within n b c place go actions.unfit small s = tt
 on_done_within n b c place go (actions.broke rule) small s = tt
 
 -- an action, and where the thread goes on
-pub acts_within : (n m : ℕ) (h : TurnContext) (place : ℕ) (action : SharedAction) (locals : List Variable) (point : Option Value → TurnStart) → Few n h → ((v : Option Value) → FitsPoint n (point v)) → (x : Now)
-    → Within n (length x.world.blocks + m) (acts h place action (λ u next. stays h locals (point u) next) x)
-acts_within n m h place action locals point f fits x =
-    on_done_within n (length x.world.blocks) (length x.world.blocks + m) place (λ u next. stays h locals (point u) next) (actions.acted x.world h.thread h.answer action) (small_acted x.world h.thread h.answer action)
+pub acts_within : (n m : ℕ) (h : TurnContext) (place : ℕ) (atomic : Bool) (action : SharedAction) (locals : List Variable) (point : Option Value → TurnStart) → Few n h → ((v : Option Value) → FitsPoint n (point v)) → (x : Now)
+    → Within n (length x.world.blocks + m) (acts h place atomic action (λ u next. stays h locals (point u) next) x)
+acts_within n m h place atomic action locals point f fits x =
+    on_done_within n (length x.world.blocks) (length x.world.blocks + m) place (λ u next. having_touched (touches_of place x.world h.answer atomic action) (stays h locals (point u) next)) (actions.acted x.world h.thread h.answer action) (small_acted x.world h.thread h.answer action)
     (λ v w s. (omega (arith, s), (fits v, f.callers)))
 
 pub after_fits : (n : ℕ) (k : Wait) (v : Option Value) → FitsWait n k → FitsPoint n (after_call k v)
@@ -119,7 +120,7 @@ calls_library_within : (n : ℕ) (h : TurnContext) (place : ℕ) (which : tree.L
     → Within n (length x.world.blocks + 0) (calls_library h place which args k action x)
 calls_library_within n h place which args k None x f fits = tt
 calls_library_within n h place which args k (Some action) x f fits =
-    acts_within n 0 h place action x.locals (λ v. after_call k (value_of_call which args v)) f (λ v. after_fits n k (value_of_call which args v) fits) x
+    acts_within n 0 h place (names_atomic which) action x.locals (λ v. after_call k (value_of_call which args v)) f (λ v. after_fits n k (value_of_call which args v) fits) x
 
 calls_within : (n : ℕ) (h : TurnContext) (place : ℕ) (callee : Callee) (args : List Value) (k : Wait) (x : Now) → Few n h → FitsWait n k → Within n (length x.world.blocks + 0) (calls h place callee args k x)
 calls_within n h place (control.function number) args k x f fits =
@@ -131,7 +132,7 @@ returns_within : (n : ℕ) (h : TurnContext) (v : Option Value) (w : World) (cal
 returns_within n h v w [] fits =
     on_done_within n (length w.blocks) (length w.blocks) 0 (λ u next. ended next) (actions.acted w h.thread h.answer (actions.finish (number_in v))) (small_acted w h.thread h.answer (actions.finish (number_in v))) (λ u next s. s)
 returns_within n h v w (c ∷ callers) fits =
-    plainly_within n (length w.blocks) h.answer (went (record { function = c.function; locals = c.locals; point = after_call c.wait v; callers = callers }) w)
+    plainly_within n (length w.blocks) h.answer (went (record { function = c.function; locals = c.locals; point = after_call c.wait v; callers = callers; touched = [] }) w)
     (omega arith, (after_fits n c.wait v fits.0, fits.1))
 
 pub leaves_makes : (n m : ℕ) (h : TurnContext) (v : Option Value) → Few n h → Makes n m (leaves_call h v)
@@ -141,10 +142,10 @@ leaves_makes n m h v f x =
 
 -- ---- what uses a value in an expression
 
-pub read_makes : (n : ℕ) (h : TurnContext) (place : ℕ) (how : Access) (w : WayOfUse) → Few n h → MakesUse n w → MakesUse n (read_way h place how w)
-read_makes n h place how w f g = record {
+pub read_makes : (n : ℕ) (h : TurnContext) (place : ℕ) (how : Access) (atomic : Bool) (w : WayOfUse) → Few n h → MakesUse n w → MakesUse n (read_way h place how atomic w)
+read_makes n h place how atomic w f g = record {
   fits = g.fits;
-  goes = λ v x. acts_within n (reached_by w.k) h place (actions.load (pointer_in v) how) x.locals (λ u. after_call (wanted place w.k) u) f (λ u. after_fits n (wanted place w.k) u g.fits) x;
+  goes = λ v x. acts_within n (reached_by w.k) h place atomic (actions.load (pointer_in v) how) x.locals (λ u. after_call (wanted place w.k) u) f (λ u. after_fits n (wanted place w.k) u g.fits) x;
 }
 
 pub only_makes : (n place : ℕ) (op : Unary) (w : WayOfUse) → MakesUse n w → MakesUse n (only_way place op w)
@@ -195,7 +196,7 @@ argument_makes n place callee before rest run_rest k fits s = record { fits = fi
 reads_variable_makes : (n : ℕ) (h : TurnContext) (place : ℕ) (ty : tree.Ty) (w : WayOfUse) (v : Variable) → Few n h → MakesUse n w → Makes n (reached_by w.k) (reads_variable h place ty w v)
 reads_variable_makes n h place ty w control.unset f g x = tt
 reads_variable_makes n h place ty w (control.holds v) f g x = g.goes v x
-reads_variable_makes n h place ty w (control.lies block) f g x = (read_makes n h place (access_of_type ty) w f g).goes (block_value block) x
+reads_variable_makes n h place ty w (control.lies block) f g x = (read_makes n h place (access_of_type ty) (is_atomic ty) w f g).goes (block_value block) x
 
 finds_variable_makes : (n place : ℕ) (w : WayOfUse) (v : Variable) → MakesUse n w → Makes n (reached_by w.k) (finds_variable place w v)
 finds_variable_makes n place w control.unset g x = tt
@@ -211,13 +212,13 @@ mutual
   pub run_node_makes : (n : ℕ) (h : TurnContext) → Few n h → (place : ℕ) (ty : tree.Ty) (node : tree.ExprNode) → Runs n (run_node h place ty node)
   run_node_makes n h f place ty (tree.num t z) w g x = g.goes (number_value t z) x
   run_node_makes n h f place ty tree.null w g x = g.goes null_value x
-  run_node_makes n h f place ty (tree.literal number) w g x = (read_makes n h place (access_of_type ty) w f g).goes (block_value (literal_block h number)) x
-  run_node_makes n h f place ty (tree.global number) w g x = (read_makes n h place (access_of_type ty) w f g).goes (block_value number) x
+  run_node_makes n h f place ty (tree.literal number) w g x = (read_makes n h place (access_of_type ty) (is_atomic ty) w f g).goes (block_value (literal_block h number)) x
+  run_node_makes n h f place ty (tree.global number) w g x = (read_makes n h place (access_of_type ty) (is_atomic ty) w f g).goes (block_value number) x
   run_node_makes n h f place ty (tree.local number) w g x = reads_variable_makes n h place ty w (variable_at x number) f g x
-  run_node_makes n h f place ty (tree.deref e) w g x = run_makes n h f e (read_way h place (access_of_type ty) w) (read_makes n h place (access_of_type ty) w f g) x
+  run_node_makes n h f place ty (tree.deref e) w g x = run_makes n h f e (read_way h place (access_of_type ty) (is_atomic ty) w) (read_makes n h place (access_of_type ty) (is_atomic ty) w f g) x
   run_node_makes n h f place ty (tree.member e number) w g x =
       let op = reads.selects (reads.member_offset h.typed.structs (tree.type_of e) number) in
-      run_place_makes n h f e (only_way place op (read_way h place (access_of_type ty) w)) (only_makes n place op (read_way h place (access_of_type ty) w) (read_makes n h place (access_of_type ty) w f g)) x
+      run_place_makes n h f e (only_way place op (read_way h place (access_of_type ty) (is_atomic ty) w)) (only_makes n place op (read_way h place (access_of_type ty) (is_atomic ty) w) (read_makes n h place (access_of_type ty) (is_atomic ty) w f g)) x
   run_node_makes n h f place ty (tree.address_of e) w g x = run_place_makes n h f e w g x
   run_node_makes n h f place ty (tree.decay e) w g x = run_place_makes n h f e w g x
   run_node_makes n h f place ty (tree.convert e) w g x = run_makes n h f e (only_way place (reads.converts ty) w) (only_makes n place (reads.converts ty) w g) x

@@ -15,7 +15,7 @@ use Rattle.c_meaning.specs.Control.{Control, Variable, Todo, Use, TurnStart, Loo
 use Rattle.c_meaning.specs.Library.{changed_by}
 use Rattle.c_meaning.specs.Switches.{chosen, starts_at}
 use Rattle.c_meaning.specs.Values.{access_of_type, is_atomic, is_minus, is_scalar, truth_of, updated}
-use Rattle.c_meaning.specs.Turns.{TurnContext, Now, Does, Way, stays, after_call, local_at, is_block, size_of_local, variable_at, with_variable, ended_if, ended_local, ended_locals, made_local, declared_local, declared, declared_by, pointer_in, run, run_node, run_place, run_place_node, run_arguments, nowhere_way, drops_object, run_dropped, run_dropped_node, local_way, place_way, left_way, struct_right_way, struct_left_way, is_struct, assigns_object, assigns, update_read_way, update_reads, update_changes, update_right_way, update_left_way, updates_variable, update_local_way, updates, initialises, declares, caller_way, returns, if_way, nothing, leaving, leave_way, row_way, end_way, round_over, step_way, body_way, loop_test_way, rounds_if, rounds, loop_way, while_loop, for_loop, do_loop, switch_way, starts, switch_test_way, update_of, run_stmt, run_stmt_node, run_row, run_from, way_of, use_of, from_point, here, turn}
+use Rattle.c_meaning.specs.Turns.{TurnContext, Now, Does, Way, stays, after_call, local_at, is_block, is_atomic_local, size_of_local, variable_at, with_variable, ended_if, ended_local, ended_locals, made_local, declared_local, declared, declared_by, pointer_in, run, run_node, run_place, run_place_node, run_arguments, nowhere_way, drops_object, run_dropped, run_dropped_node, local_way, place_way, left_way, struct_right_way, struct_left_way, is_struct, assigns_object, assigns, update_read_way, update_reads, update_changes, update_right_way, update_left_way, updates_variable, update_local_way, updates, initialises, declares, caller_way, returns, if_way, nothing, leaving, leave_way, row_way, end_way, round_over, step_way, body_way, loop_test_way, rounds_if, rounds, loop_way, while_loop, for_loop, do_loop, switch_way, starts, switch_test_way, update_of, run_stmt, run_stmt_node, run_row, run_from, way_of, use_of, from_point, here, turn}
 use Rattle.source_statements.proofs.Names.{name_todo, name_use}
 use Rattle.block_meaning.specs.Counts.{in_stmt, in_node, in_row, in_loop, reached, reached_by, Fits, FitsUse, FitsPoint, FitsControl, HasFewDeclarations}
 use Rattle.block_meaning.proofs.Counting.{Within, within_more, within_if, Makes, makes_more, MakesUse, MakesWay, Few, on_ok_within, plainly_within, acts_within, after_fits, leaves_makes, block_value, read_makes, only_makes, second_makes, first_makes, second_test_makes, first_test_makes, choice_makes, argument_makes, run_makes, run_node_makes, run_place_makes, run_place_node_makes, run_arguments_makes}
@@ -51,19 +51,19 @@ nowhere_makes n w g = record { fits = g.fits; goes = λ v x. g.ends x }
 local_makes : (n number : ℕ) (w : Way) → MakesWay n w → MakesUse n (local_way number w)
 local_makes n number w g = record { fits = g.fits; goes = λ v x. g.ends (with_variable number (control.holds v) x) }
 
-place_makes : (n : ℕ) (h : TurnContext) (place : ℕ) (to : Value) (w : Way) → Few n h → MakesWay n w → MakesUse n (place_way h place to w)
-place_makes n h place to w f g = record {
+place_makes : (n : ℕ) (h : TurnContext) (place : ℕ) (atomic : Bool) (to : Value) (w : Way) → Few n h → MakesWay n w → MakesUse n (place_way h place atomic to w)
+place_makes n h place atomic to w f g = record {
   fits = g.fits;
-  goes = λ v x. acts_within n (reached w.k) h place (actions.store (pointer_in to) v) x.locals (λ u. control.begins w.k) f (λ u. g.fits) x;
+  goes = λ v x. acts_within n (reached w.k) h place atomic (actions.store (pointer_in to) v) x.locals (λ u. control.begins w.k) f (λ u. g.fits) x;
 }
 
-left_makes : (n : ℕ) (h : TurnContext) (place : ℕ) (right : tree.Expr) (w : Way) → Few n h → MakesWay n w → MakesUse n (left_way h place right w)
-left_makes n h place right w f g = record { fits = g.fits; goes = λ v x. run_makes n h f right (place_way h place v w) (place_makes n h place v w f g) x }
+left_makes : (n : ℕ) (h : TurnContext) (place : ℕ) (atomic : Bool) (right : tree.Expr) (w : Way) → Few n h → MakesWay n w → MakesUse n (left_way h place atomic right w)
+left_makes n h place atomic right w f g = record { fits = g.fits; goes = λ v x. run_makes n h f right (place_way h place atomic v w) (place_makes n h place atomic v w f g) x }
 
 struct_right_makes : (n : ℕ) (h : TurnContext) (place : ℕ) (ty : tree.Ty) (to : Value) (w : Way) → Few n h → MakesWay n w → MakesUse n (struct_right_way h place ty to w)
 struct_right_makes n h place ty to w f g = record {
   fits = g.fits;
-  goes = λ v x. acts_within n (reached w.k) h place (actions.copy (pointer_in to) (pointer_in v) (size_in h.typed.structs ty) (align_in h.typed.structs ty) true) x.locals (λ u. control.begins w.k) f (λ u. g.fits) x;
+  goes = λ v x. acts_within n (reached w.k) h place false (actions.copy (pointer_in to) (pointer_in v) (size_in h.typed.structs ty) (align_in h.typed.structs ty) true) x.locals (λ u. control.begins w.k) f (λ u. g.fits) x;
 }
 
 struct_left_makes : (n : ℕ) (h : TurnContext) (place : ℕ) (ty : tree.Ty) (right : tree.Expr) (w : Way) → Few n h → MakesWay n w → MakesUse n (struct_left_way h place ty right w)
@@ -71,9 +71,9 @@ struct_left_makes n h place ty right w f g = record { fits = g.fits; goes = λ v
 
 assigns_object_makes : (n : ℕ) (h : TurnContext) (left right : tree.Expr) (w : Way) → Few n h → MakesWay n w → Makes n (reached w.k) (assigns_object h left right w)
 assigns_object_makes n h left right w f g =
-    makes_if n (reached w.k) (is_struct (tree.type_of left)) (run_place h left (struct_left_way h (tree.place_of left) (tree.type_of left) right w)) (run_place h left (left_way h (tree.place_of left) right w))
+    makes_if n (reached w.k) (is_struct (tree.type_of left)) (run_place h left (struct_left_way h (tree.place_of left) (tree.type_of left) right w)) (run_place h left (left_way h (tree.place_of left) (is_atomic (tree.type_of left)) right w))
     (run_place_makes n h f left (struct_left_way h (tree.place_of left) (tree.type_of left) right w) (struct_left_makes n h (tree.place_of left) (tree.type_of left) right w f g))
-    (run_place_makes n h f left (left_way h (tree.place_of left) right w) (left_makes n h (tree.place_of left) right w f g))
+    (run_place_makes n h f left (left_way h (tree.place_of left) (is_atomic (tree.type_of left)) right w) (left_makes n h (tree.place_of left) (is_atomic (tree.type_of left)) right w f g))
 
 assigns_makes : (n : ℕ) (h : TurnContext) (node : tree.ExprNode) (left right : tree.Expr) (w : Way) → Few n h → MakesWay n w → Makes n (reached w.k) (assigns h node left right w)
 assigns_makes n h (tree.local number) left right w f g =
@@ -104,16 +104,16 @@ assigns_makes n h (tree.lib which args) left right w f g = assigns_object_makes 
 update_read_makes : (n : ℕ) (h : TurnContext) (u : Update) (at by : Value) (w : Way) → Few n h → MakesWay n w → MakesUse n (update_read_way h u at by w)
 update_read_makes n h u at by w f g = record {
   fits = g.fits;
-  goes = λ v x. on_ok_within n (length x.world.blocks + reached w.k) u.operator (λ r. (place_way h u.place at w).go r x) (updated h.typed.structs x.world.blocks u.ty u.op v by) (λ r. (place_makes n h u.place at w f g).goes r x);
+  goes = λ v x. on_ok_within n (length x.world.blocks + reached w.k) u.operator (λ r. (place_way h u.place false at w).go r x) (updated h.typed.structs x.world.blocks u.ty u.op v by) (λ r. (place_makes n h u.place false at w f g).goes r x);
 }
 
 update_reads_makes : (n : ℕ) (h : TurnContext) (u : Update) (at by : Value) (w : Way) → Few n h → MakesWay n w → Makes n (reached w.k) (update_reads h u at by w)
 update_reads_makes n h u at by w f g x =
-    acts_within n (reached w.k) h u.place (actions.load (pointer_in at) (access_of_type u.ty)) x.locals (λ r. after_call (wanted u.place (control.update_read u at by w.k)) r) f (λ r. after_fits n (wanted u.place (control.update_read u at by w.k)) r g.fits) x
+    acts_within n (reached w.k) h u.place false (actions.load (pointer_in at) (access_of_type u.ty)) x.locals (λ r. after_call (wanted u.place (control.update_read u at by w.k)) r) f (λ r. after_fits n (wanted u.place (control.update_read u at by w.k)) r g.fits) x
 
 update_changes_makes : (n : ℕ) (h : TurnContext) (u : Update) (w : Way) (action : Option SharedAction) → Few n h → MakesWay n w → Makes n (reached w.k) (update_changes h u w action)
 update_changes_makes n h u w None f g x = tt
-update_changes_makes n h u w (Some action) f g x = acts_within n (reached w.k) h u.place action x.locals (λ old. control.begins w.k) f (λ old. g.fits) x
+update_changes_makes n h u w (Some action) f g x = acts_within n (reached w.k) h u.place true action x.locals (λ old. control.begins w.k) f (λ old. g.fits) x
 
 update_right_makes : (n : ℕ) (h : TurnContext) (u : Update) (at : Value) (w : Way) → Few n h → MakesWay n w → MakesUse n (update_right_way h u at w)
 update_right_makes n h u at w f g = record {
@@ -166,9 +166,10 @@ updates_makes n h u (tree.lib which args) left right w f g = updates_object_make
 initialises_makes : (n : ℕ) (h : TurnContext) (place number : ℕ) (init : tree.Expr) (w : Way) → Few n h → MakesWay n w → Makes n (1 + reached w.k) (initialises h place number init w)
 initialises_makes n h place number init w f g x =
     let to = block_value (length (ended_local number x).world.blocks) in
-    within_if n (length x.world.blocks + (1 + reached w.k)) (is_block (local_at h number)) (run h init (place_way h place to w) (made_local h number x)) (run h init (local_way number w) (with_variable number control.unset x))
-    (within_more n (length (made_local h number x).world.blocks + reached w.k) (length x.world.blocks + (1 + reached w.k)) (run h init (place_way h place to w) (made_local h number x)) (omega (arith, made_local_length h number x))
-    (run_makes n h f init (place_way h place to w) (place_makes n h place to w f g) (made_local h number x)))
+    let atomic = is_atomic_local (local_at h number) in
+    within_if n (length x.world.blocks + (1 + reached w.k)) (is_block (local_at h number)) (run h init (place_way h place atomic to w) (made_local h number x)) (run h init (local_way number w) (with_variable number control.unset x))
+    (within_more n (length (made_local h number x).world.blocks + reached w.k) (length x.world.blocks + (1 + reached w.k)) (run h init (place_way h place atomic to w) (made_local h number x)) (omega (arith, made_local_length h number x))
+    (run_makes n h f init (place_way h place atomic to w) (place_makes n h place atomic to w f g) (made_local h number x)))
     (within_more n (length x.world.blocks + reached w.k) (length x.world.blocks + (1 + reached w.k)) (run h init (local_way number w) (with_variable number control.unset x)) (omega arith)
     (run_makes n h f init (local_way number w) (local_makes n number w g) (with_variable number control.unset x)))
 
@@ -446,15 +447,15 @@ use_makes : (n : ℕ) (h : TurnContext) → Few n h → (k : Use) → FitsUse n 
 use_makes n h f (control.first_of place op right k) fits = first_makes n place op right (run h right) (use_of h k) (run_makes n h f right) (use_makes n h f k fits)
 use_makes n h f (control.second_of place op left k) fits = second_makes n place op left (use_of h k) (use_makes n h f k fits)
 use_makes n h f (control.only_of place op k) fits = only_makes n place op (use_of h k) (use_makes n h f k fits)
-use_makes n h f (control.place_read place how k) fits = read_makes n h place how (use_of h k) f (use_makes n h f k fits)
+use_makes n h f (control.place_read place how atomic k) fits = read_makes n h place how atomic (use_of h k) f (use_makes n h f k fits)
 use_makes n h f (control.first_test place decides right k) fits = first_test_makes n place decides right (run h right) (use_of h k) (run_makes n h f right) (use_makes n h f k fits)
 use_makes n h f (control.second_test place k) fits = second_test_makes n place (use_of h k) (use_makes n h f k fits)
 use_makes n h f (control.choice place one other k) fits = choice_makes n place one other (run h one) (run h other) (use_of h k) (run_makes n h f one) (run_makes n h f other) (use_makes n h f k fits)
 use_makes n h f (control.argument place callee before rest k) fits =
     argument_makes n place callee before rest (run_arguments h place callee rest) k fits (λ all. run_arguments_makes n h f place callee rest all k fits)
 use_makes n h f (control.to_local number k) fits = local_makes n number (way_of h k) (way_makes n h f k fits)
-use_makes n h f (control.left_place place right k) fits = left_makes n h place right (way_of h k) f (way_makes n h f k fits)
-use_makes n h f (control.to_place place to k) fits = place_makes n h place to (way_of h k) f (way_makes n h f k fits)
+use_makes n h f (control.left_place place atomic right k) fits = left_makes n h place atomic right (way_of h k) f (way_makes n h f k fits)
+use_makes n h f (control.to_place place atomic to k) fits = place_makes n h place atomic to (way_of h k) f (way_makes n h f k fits)
 use_makes n h f (control.struct_left place ty right k) fits = struct_left_makes n h place ty right (way_of h k) f (way_makes n h f k fits)
 use_makes n h f (control.struct_right place ty to k) fits = struct_right_makes n h place ty to (way_of h k) f (way_makes n h f k fits)
 use_makes n h f (control.update_left u right k) fits = update_left_makes n h u right (way_of h k) f (way_makes n h f k fits)
@@ -484,14 +485,14 @@ use_reaches : (n : ℕ) (k : Use) → FitsUse n k → reached_by k ≤ n
 use_reaches n (control.first_of place op right k) fits = use_reaches n k fits
 use_reaches n (control.second_of place op left k) fits = use_reaches n k fits
 use_reaches n (control.only_of place op k) fits = use_reaches n k fits
-use_reaches n (control.place_read place how k) fits = use_reaches n k fits
+use_reaches n (control.place_read place how atomic k) fits = use_reaches n k fits
 use_reaches n (control.first_test place decides right k) fits = use_reaches n k fits
 use_reaches n (control.second_test place k) fits = use_reaches n k fits
 use_reaches n (control.choice place one other k) fits = use_reaches n k fits
 use_reaches n (control.argument place callee before rest k) fits = omega arith
 use_reaches n (control.to_local number k) fits = todo_reaches n k fits
-use_reaches n (control.left_place place right k) fits = todo_reaches n k fits
-use_reaches n (control.to_place place to k) fits = todo_reaches n k fits
+use_reaches n (control.left_place place atomic right k) fits = todo_reaches n k fits
+use_reaches n (control.to_place place atomic to k) fits = todo_reaches n k fits
 use_reaches n (control.struct_left place ty right k) fits = todo_reaches n k fits
 use_reaches n (control.struct_right place ty to k) fits = todo_reaches n k fits
 use_reaches n (control.update_left u right k) fits = todo_reaches n k fits

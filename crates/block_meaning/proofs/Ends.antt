@@ -1,5 +1,5 @@
 -- What ends a turn, carried out.
-use Rattle.std.proofs.Common.{◌≡◌, ℕ, List, [], ◌∷◌, map, Option, Some, None, refl, sym, ap, subst, ◌∙◌, ℤ}
+use Rattle.std.proofs.Common.{◌≡◌, ℕ, true, List, [], ◌∷◌, ◌++◌, map, Option, Some, None, refl, sym, ap, subst, ◌∙◌, ℤ}
 use Rattle.std.proofs.lemmas.Option.{slice_get-map}
 use Rattle.std.specs.Global.{Global}
 use Rattle.std.specs.declared.rc.Rc.{Rc}
@@ -12,8 +12,11 @@ use Rattle.ak_words.specs.declared.rule.Rule.{Rule}
 use Rattle.block_store.specs.Actions as actions
 use Rattle.block_store.specs.Runs.{Turn, went, ended}
 use Rattle.c_meaning.specs.Control as control
-use Rattle.c_meaning.specs.Turns.{first_locals, begins_in, enters, on_done, stays, result_of_call, number_in, returns_to, without_blocks}
+use Rattle.c_meaning.specs.Turns.{first_locals, begins_in, enters, having_touched, on_done, stays, result_of_call, number_in, returns_to, without_blocks}
 use Rattle.c_meaning.specs.Turns as turns
+use Rattle.c_meaning.specs.Touches.{touches_of}
+use Rattle.race_rules.specs.declared.touch.Touch.{Touch}
+use Rattle.source_state.specs.declared.control.Site.{Site}
 use Rattle.source_state.specs.declared.world.SharedAction.{SharedAction}
 use Rattle.source_state.specs.declared.world.Done.{Done}
 use Rattle.source_state.specs.declared.world.Done.TheVariants as dones
@@ -35,39 +38,61 @@ use Rattle.source_expressions.specs.Ends.{here_at, point_of}
 use Rattle.block_meaning.specs.declared.thread.Own.{Own}
 use Rattle.block_meaning.specs.declared.thread.Outcome.{Outcome}
 use Rattle.block_meaning.specs.declared.thread.Outcome.TheVariants as outcomes
-use Rattle.block_meaning.specs.Threads.{callers_of}
+use Rattle.block_meaning.specs.Threads.{callers_of, touches_in}
+use Rattle.block_meaning.specs.declared.touch_list.Touches.{Touches}
+use Rattle.block_meaning.specs.declared.touches.Comparing.{Comparing}
+use Rattle.block_meaning.specs.declared.touches.Gathered.{Gathered}
+use Rattle.block_meaning.specs.inner.Touches.{before_its_end, comparing_of, end_of}
+use Rattle.block_meaning.proofs.Touching.{touched_whole}
 use Rattle.block_meaning.specs.inner.Turns.{rest_of, turn_of, ends_in, Untouched, IsTurned}
 
 -- ---- an action
 
+-- what the action touches
+abbrev touched_in : Site → Answer → SharedAction → World → List Touch
+touched_in site answer action w = touches_of site.place (world_of w) answer site.atomic (action_of action)
+
 -- what ends the turn, as the code's pending action says
-comes_to : (p : SharedProgram) (thread : ℕ) (answer : Answer) (place : ℕ) (action : SharedAction) (next : Then) (own : Own) (w new : World) (d e : Done)
+comes_to : (p : SharedProgram) (thread : ℕ) (answer : Answer) (site : Site) (action : SharedAction) (next : Then) (own : Own) (w new : World) (d e : Done)
     → done_of d (world_of new) ≡ actions.acted (world_of w) thread answer (action_of action) → d ≡ e
-    → on_done place (λ u x. stays (here_at p own.function (rest_of thread answer own)) own.locals.now (point_of next u) x) (done_of e (world_of new)) ≡ ends_in p thread answer own w (pendings.Act place action next)
-comes_to p thread answer place action next own w new d e done is_e =
-    ap (on_done place (λ u x. stays (here_at p own.function (rest_of thread answer own)) own.locals.now (point_of next u) x)) (sym (ap (λ (f : Done). done_of f (world_of new)) is_e) ∙ done)
+    → on_done site.place (λ u x. having_touched (touched_in site answer action w) (stays (here_at p own.function (rest_of thread answer own)) own.locals.now (point_of next u) x)) (done_of e (world_of new)) ≡ ends_in p thread answer own w (pendings.Act site action next)
+comes_to p thread answer site action next own w new d e done is_e =
+    ap (on_done site.place (λ u x. having_touched (touched_in site answer action w) (stays (here_at p own.function (rest_of thread answer own)) own.locals.now (point_of next u) x))) (sym (ap (λ (f : Done). done_of f (world_of new)) is_e) ∙ done)
 
-pub act_went : (p : SharedProgram) (thread : ℕ) (answer : Answer) (place : ℕ) (action : SharedAction) (next : Then) (own : Own) (w new : World) (d : Done) (v : Option Value) (at : control.TurnStart)
-    → done_of d (world_of new) ≡ actions.acted (world_of w) thread answer (action_of action) → d ≡ dones.Went v → at ≡ point_of next v
-    → ◌≡◌ {A = Turn control.Control} (went (record { function = own.function; locals = own.locals.now; point = at; callers = callers_of own.callers }) (world_of new)) (ends_in p thread answer own w (pendings.Act place action next))
-act_went p thread answer place action next own w new d v at done is_went pt =
-    ap (λ (x : control.TurnStart). went (record { function = own.function; locals = own.locals.now; point = x; callers = callers_of own.callers }) (world_of new)) pt
-    ∙ comes_to p thread answer place action next own w new d (dones.Went v) done is_went
+pub act_went : (p : SharedProgram) (thread : ℕ) (answer : Answer) (site : Site) (action : SharedAction) (next : Then) (own : Own) (w new : World) (d : Done) (v : Option Value) (at : control.TurnStart) (touched : List Touch)
+    → done_of d (world_of new) ≡ actions.acted (world_of w) thread answer (action_of action) → d ≡ dones.Went v → at ≡ point_of next v → touched ≡ touched_in site answer action w
+    → ◌≡◌ {A = Turn control.Control} (went (record { function = own.function; locals = own.locals.now; point = at; callers = callers_of own.callers; touched = touched }) (world_of new)) (ends_in p thread answer own w (pendings.Act site action next))
+act_went p thread answer site action next own w new d v at touched done is_went pt so =
+    ap (λ (x : control.TurnStart). went (record { function = own.function; locals = own.locals.now; point = x; callers = callers_of own.callers; touched = touched }) (world_of new)) pt
+    ∙ ap (λ (l : List Touch). went (record { function = own.function; locals = own.locals.now; point = point_of next v; callers = callers_of own.callers; touched = l }) (world_of new)) so
+    ∙ comes_to p thread answer site action next own w new d (dones.Went v) done is_went
 
-pub act_blocked : (p : SharedProgram) (thread : ℕ) (answer : Answer) (place : ℕ) (action : SharedAction) (next : Then) (own own' : Own) (w new : World) (d : Done)
+-- what was gathered is what the action touches
+pub touched_as : (site : Site) (thread : ℕ) (answer : Answer) (action : SharedAction) (w new : World) (g : Gathered) (c : Option Comparing) (d : Done) (v : Option Value) (all : Touches)
+    → g.place ≡ site.place → (g.fits ≡ true → touches_in g.touches ≡ before_its_end site.place (world_of w) answer site.atomic (action_of action)) → c ≡ comparing_of action
+    → done_of d (world_of new) ≡ actions.acted (world_of w) thread answer (action_of action) → d ≡ dones.Went v → g.fits ≡ true → touches_in all ≡ touches_in g.touches ++ end_of g.place c v
+    → touches_in all ≡ touched_in site answer action w
+touched_as site thread answer action w new g c d v all place before is done went_is fits whole =
+    whole
+    ∙ ap (λ (l : List Touch). l ++ end_of g.place c v) (before fits)
+    ∙ ap (λ (n : ℕ). before_its_end site.place (world_of w) answer site.atomic (action_of action) ++ end_of n c v) place
+    ∙ ap (λ (o : Option Comparing). before_its_end site.place (world_of w) answer site.atomic (action_of action) ++ end_of site.place o v) is
+    ∙ touched_whole site.place (world_of w) (world_of new) thread answer site.atomic action v (sym done ∙ ap (λ (e : Done). done_of e (world_of new)) went_is)
+
+pub act_blocked : (p : SharedProgram) (thread : ℕ) (answer : Answer) (site : Site) (action : SharedAction) (next : Then) (own own' : Own) (w new : World) (d : Done)
     → done_of d (world_of new) ≡ actions.acted (world_of w) thread answer (action_of action) → d ≡ dones.Blocked
-    → turn_of outcomes.Blocked own' new ≡ ends_in p thread answer own w (pendings.Act place action next)
-act_blocked p thread answer place action next own own' w new d done e = comes_to p thread answer place action next own w new d dones.Blocked done e
+    → turn_of outcomes.Blocked own' new ≡ ends_in p thread answer own w (pendings.Act site action next)
+act_blocked p thread answer site action next own own' w new d done e = comes_to p thread answer site action next own w new d dones.Blocked done e
 
-pub act_unfit : (p : SharedProgram) (thread : ℕ) (answer : Answer) (place : ℕ) (action : SharedAction) (next : Then) (own own' : Own) (w new : World) (d : Done)
+pub act_unfit : (p : SharedProgram) (thread : ℕ) (answer : Answer) (site : Site) (action : SharedAction) (next : Then) (own own' : Own) (w new : World) (d : Done)
     → done_of d (world_of new) ≡ actions.acted (world_of w) thread answer (action_of action) → d ≡ dones.Unfit
-    → turn_of outcomes.Unfit own' new ≡ ends_in p thread answer own w (pendings.Act place action next)
-act_unfit p thread answer place action next own own' w new d done e = comes_to p thread answer place action next own w new d dones.Unfit done e
+    → turn_of outcomes.Unfit own' new ≡ ends_in p thread answer own w (pendings.Act site action next)
+act_unfit p thread answer site action next own own' w new d done e = comes_to p thread answer site action next own w new d dones.Unfit done e
 
-pub act_broke : (p : SharedProgram) (thread : ℕ) (answer : Answer) (place : ℕ) (action : SharedAction) (next : Then) (own own' : Own) (w new : World) (d : Done) (rule : Rule)
+pub act_broke : (p : SharedProgram) (thread : ℕ) (answer : Answer) (site : Site) (action : SharedAction) (next : Then) (own own' : Own) (w new : World) (d : Done) (rule : Rule)
     → done_of d (world_of new) ≡ actions.acted (world_of w) thread answer (action_of action) → d ≡ dones.Broke rule
-    → turn_of (outcomes.Broke rule place) own' new ≡ ends_in p thread answer own w (pendings.Act place action next)
-act_broke p thread answer place action next own own' w new d rule done e = comes_to p thread answer place action next own w new d (dones.Broke rule) done e
+    → turn_of (outcomes.Broke rule site.place) own' new ≡ ends_in p thread answer own w (pendings.Act site action next)
+act_broke p thread answer site action next own own' w new d rule done e = comes_to p thread answer site action next own w new d (dones.Broke rule) done e
 
 -- an action that isn't done leaves the world as it was
 pub left_as : (d e : Done) (w new : World) → worlds.Untouched d w new → d ≡ e → worlds.Untouched e w new
@@ -103,11 +128,11 @@ enter_plain p thread answer number args waits own w f new e a in_it =
     ap (λ (c : control.Control). went c (world_of w)) in_it ∙ rw a (enters_as p thread answers.Plain number args waits own w (Some f) (sym e))
 
 -- part by part
-pub entered : (f : SharedFunc) (number : ℕ) (own : Own) (args : List Value) (list : List Value) (waits : Wait) (c : control.Caller) (locals : List control.Variable) (k : control.Todo) (callers : List control.Caller)
+pub entered : (f : SharedFunc) (number : ℕ) (own : Own) (args : List Value) (list : List Value) (waits : Wait) (c : control.Caller) (locals : List control.Variable) (k : control.Todo) (callers : List control.Caller) (touched : List Touch)
     → list ≡ args → locals ≡ first_locals (func_of f) list → k ≡ control.then_row (row_of f.body.value) control.leaves → callers ≡ c ∷ callers_of own.callers
-    → c ≡ record { function = own.function; locals = own.locals.now; wait = wait_of waits }
-    → ◌≡◌ {A = control.Control} (record { function = number; locals = locals; point = control.begins k; callers = callers }) (begins_in number (func_of f) args (record { function = own.function; locals = own.locals.now; wait = wait_of waits } ∷ callers_of own.callers))
-entered f number own args list waits c locals k callers e g h i j = rw (g, h, i, j, e) refl
+    → c ≡ record { function = own.function; locals = own.locals.now; wait = wait_of waits } → touched ≡ []
+    → ◌≡◌ {A = control.Control} (record { function = number; locals = locals; point = control.begins k; callers = callers; touched = touched }) (begins_in number (func_of f) args (record { function = own.function; locals = own.locals.now; wait = wait_of waits } ∷ callers_of own.callers))
+entered f number own args list waits c locals k callers touched e g h i j t = rw (g, h, i, j, e, t) refl
 
 -- ---- a call that is left
 
@@ -124,10 +149,10 @@ pub last_returned : (p : SharedProgram) (function thread : ℕ) (own own' : Own)
 last_returned p function thread own own' value number w new d none is_number done =
     rw none (ap ended (went_only d (world_of new) (actions.with_reached (actions.staged (world_of w) thread (actions.returned (actions.result_of (number_in value)))) []) None (done ∙ ap (λ n. actions.acted (world_of w) thread answers.Plain (actions.finish n)) is_number)))
 
-pub caller_returned : (p : SharedProgram) (function thread : ℕ) (own : Own) (value : Option Value) (w : World) (caller : control.Caller) (callers : List control.Caller) (at : control.TurnStart)
-    → callers_of own.callers ≡ caller ∷ callers → at ≡ turns.after_call caller.wait value
-    → ◌≡◌ {A = Turn control.Control} (went (record { function = caller.function; locals = caller.locals; point = at; callers = callers }) (world_of w)) (returns_to (here_at p function (rest_of thread answers.Plain own)) value (world_of w) (callers_of own.callers))
-caller_returned p function thread own value w caller callers at e pt = rw (e, pt) refl
+pub caller_returned : (p : SharedProgram) (function thread : ℕ) (own : Own) (value : Option Value) (w : World) (caller : control.Caller) (callers : List control.Caller) (at : control.TurnStart) (touched : List Touch)
+    → callers_of own.callers ≡ caller ∷ callers → at ≡ turns.after_call caller.wait value → touched ≡ []
+    → ◌≡◌ {A = Turn control.Control} (went (record { function = caller.function; locals = caller.locals; point = at; callers = callers; touched = touched }) (world_of w)) (returns_to (here_at p function (rest_of thread answers.Plain own)) value (world_of w) (callers_of own.callers))
+caller_returned p function thread own value w caller callers at touched e pt t = rw (e, pt, t) refl
 
 pub left_plainly : (p : SharedProgram) (thread : ℕ) (answer : Answer) (own : Own) (v value : Option Value) (vars : List Variable) (w mid : World) (t : Turn control.Control)
     → answer ≡ answers.Plain → value ≡ result_of_call (here_at p own.function (rest_of thread answers.Plain own)) v → map variable_of vars ≡ own.locals.now

@@ -12,3 +12,4 @@ pub mod Reaching
 pub mod Renewing
 pub mod Small
 pub mod Starts
+pub mod Touching

@@ -17,12 +17,14 @@ use Rattle.block_meaning.specs.declared.thread.Own.{Own}
 use Rattle.block_meaning.specs.declared.thread.Outcome.{Outcome}
 use Rattle.block_meaning.specs.declared.thread.Outcome.TheVariants as outcomes
 use Rattle.block_meaning.specs.Threads.{control_of, owns_of}
-use Rattle.block_meaning.specs.Running.{left_by, answered, answered_if, ended_by, ended_with, IsAsBefore, state_in}
+use Rattle.block_meaning.specs.Running.{left_by, answered, answered_if, ended_by, ended_with, IsAsBefore, state_in, touched_by_own, touched_last}
 use Rattle.block_meaning.specs.declared.running.Turned.{Turned}
 use Rattle.block_meaning.specs.declared.running.Turned.TheVariants as turneds
 use Rattle.block_meaning.proofs.Lists.{drop_read, own_within, own_past}
 use Rattle.block_meaning.specs.inner.Turns.{turn_of, Stays}
 use Rattle.block_meaning.specs.inner.Starts.{owns_behind}
+use Rattle.block_meaning.specs.inner.Touches.{done_by}
+use Rattle.c_meaning.specs.Touching.{touched_by}
 
 picked_if : {A : Type 0} (P : Program A) (s : State A) (p : Pick) (c : A) (main own : Option A) → IsSome (turn_if P s p main own) → own ≡ Some c → turn_if P s p main own ≡ Some (P.turn p.thread p.answer c s.world)
 picked_if P s p c None own h e = cc
@@ -157,3 +159,43 @@ as_before typed s after thread (Some (ended w)) t e left = end_is_some (thread =
 as_before typed s after thread (Some blocked) t e left = let same : turneds.Blocked ≡ t = cc e in subst (λ (x : Turned). IsAsBefore x s after) same left
 as_before typed s after thread (Some unfit) t e left = let same : turneds.Unfit ≡ t = cc e in subst (λ (x : Turned). IsAsBefore x s after) same left
 as_before typed s after thread (Some (broke rule place)) t e left = let same : turneds.Broke rule place ≡ t = cc e in subst (λ (x : Turned). IsAsBefore x s after) same left
+
+-- ---- what the last turn touched
+
+-- what is put in place of a thread's own is there
+own_put : {A : Type 0} (own : List (Option A)) (i : ℕ) (new : Option A) (more : List (Option A)) → IsSome (own_at own i) → own_at (set own i new ++ more) i ≡ new
+own_put [] i new more h = absurd cc
+own_put (x ∷ own) zero new more h = refl
+own_put (x ∷ own) (suc i) new more h = own_put own i new more h
+
+-- a thread that is picked runs
+picked_runs : {A : Type 0} (P : Program A) (s : State A) (p : Pick) (main own : Option A) → IsSome (turn_if P s p main own) → IsSome own
+picked_runs P s p None own h = absurd cc
+picked_runs P s p (Some main) None h = absurd cc
+picked_runs P s p (Some main) (Some own) h = tt
+
+-- the end of a thread is done
+end_done : (is_main : Bool) (value : Option ℤ) (thread : ℕ) (turned : Turned) → ended_by is_main value ≡ Some turned → done_by turned thread ≡ Some thread
+end_done false value thread turned e = let f : turned ≡ turneds.Went = cc in rw f refl
+end_done true None thread turned e = absurd cc
+end_done true (Some z) thread turned e = let f : turned ≡ turneds.Ended z = cc in rw f refl
+
+-- by what comes of a turn
+touched_so : (typed : tree.Typed) (s : State Control) (thread : ℕ) (t : Option (Turn Control)) (turned : Turned) → IsSome (own_at s.own thread) → answered_if thread t ≡ Some turned
+    → touched_last (done_by turned thread) (left_by typed s thread t).own ≡ touched_by t
+touched_so typed s thread None turned h e = absurd cc
+touched_so typed s thread (Some (went c w)) turned h e =
+    let f : turned ≡ turneds.Went = cc in
+    rw f (ap touched_by_own (own_put s.own thread (Some c) (begun (program typed) (length s.own) w) h))
+touched_so typed s thread (Some (ended w)) turned h e =
+    rw (end_done (thread == 0) (ended_with w 0) thread turned e) (ap touched_by_own (own_put s.own thread None (begun (program typed) (length s.own) w) h))
+touched_so typed s thread (Some blocked) turned h e = let f : turned ≡ turneds.Blocked = cc in rw f refl
+touched_so typed s thread (Some unfit) turned h e = let f : turned ≡ turneds.Unfit = cc in rw f refl
+touched_so typed s thread (Some (broke rule place)) turned h e = let f : turned ≡ turneds.Broke rule place = cc in rw f refl
+
+-- what a thread has of its own behind a pick is what the pick touched, where that was done
+pub touched_then : (typed : tree.Typed) (s after : State Control) (p : Pick) (turned : Turned) (last : Option ℕ) → IsSome (picked (program typed) s p) → answered_if p.thread (picked (program typed) s p) ≡ Some turned
+    → after ≡ left_by typed s p.thread (picked (program typed) s p) → last ≡ done_by turned p.thread → touched_last last after.own ≡ touched_by (picked (program typed) s p)
+touched_then typed s after p turned last h e f g =
+    ap (λ (l : Option ℕ). touched_last l after.own) g ∙ ap (λ (x : State Control). touched_last (done_by turned p.thread) x.own) f
+    ∙ touched_so typed s p.thread (picked (program typed) s p) turned (picked_runs (program typed) s p (own_at s.own 0) (own_at s.own p.thread) h) e

@@ -32,7 +32,7 @@ use Rattle.source_state.specs.Worlds.{world_of, thread_of, reached_of}
 use Rattle.block_meaning.specs.declared.thread.At.{At}
 use Rattle.block_meaning.specs.declared.thread.At.TheVariants as ats
 use Rattle.block_meaning.specs.declared.thread.Own.{Own}
-use Rattle.block_meaning.specs.Threads.{point_of_at, control_of, callers_of}
+use Rattle.block_meaning.specs.Threads.{point_of_at, control_of, callers_of, touches_in}
 use Rattle.source_statements.specs.Finishing.{Finishes, GivesTo}
 use Rattle.source_assignments.specs.Exits.{exit, ExitsAs}
 use Rattle.block_meaning.specs.inner.Turns.{rest_of, Reaches}
@@ -85,9 +85,9 @@ turn_taken p thread answer own w locals blocks new_locals new_blocks q t reaches
     ∙ ap (λ (b : Blocks). from_point h (point_of_at own.at) (now_in own.locals.now b (world_of w))) f
 
 -- a thread and a world that are as they were
-pub own_back : (own mid own' : Own) (locals : KeptLocals) → own' ≡ mid → mid.function ≡ own.function → mid.at ≡ own.at → mid.callers ≡ own.callers → mid.locals.kept ≡ own.locals.now → locals.now ≡ own'.locals.kept
-    → ◌≡◌ {A = control.Control} (record { function = own'.function; locals = locals.now; point = point_of_at own'.at; callers = callers_of own'.callers }) (control_of own)
-own_back own mid own' locals e f a k l n = rw (n, e, f, a, k, l) refl
+pub own_back : (own mid own' : Own) (locals : KeptLocals) → own' ≡ mid → mid.function ≡ own.function → mid.at ≡ own.at → mid.callers ≡ own.callers → mid.touched ≡ own.touched → mid.locals.kept ≡ own.locals.now → locals.now ≡ own'.locals.kept
+    → ◌≡◌ {A = control.Control} (record { function = own'.function; locals = locals.now; point = point_of_at own'.at; callers = callers_of own'.callers; touched = touches_in own'.touched }) (control_of own)
+own_back own mid own' locals e f a k t l n = rw (n, e, f, a, k, t, l) refl
 
 pub world_back : (w there new : World) (store : Kept) → new ≡ there → there.output ≡ w.output → there.threads ≡ w.threads → there.reached ≡ w.reached → there.store.kept ≡ w.store.now → store.now ≡ new.store.kept
     → ◌≡◌ {A = actions.World} (record { blocks = store.now; output = new.output.items; threads = map thread_of new.threads.items; reached = map reached_of new.reached.items }) (world_of w)
@@ -101,13 +101,13 @@ reach_lacks p at place function locals blocks is = record {
 
 -- a thread and a world once a turn has got so far
 abbrev pub mid_own : Own → KeptLocals → Own
-mid_own own locals = record { function = own.function; locals = locals; at = own.at; callers = own.callers }
+mid_own own locals = record { function = own.function; locals = locals; at = own.at; callers = own.callers; touched = own.touched }
 
 abbrev pub mid_world : World → Kept → World
 mid_world w store = record { store = store; output = w.output; threads = w.threads; reached = w.reached }
 
 -- both are led back
 pub stays_back : (own own' : Own) (w new : World) (mid locals : KeptLocals) (there store : Kept) → (own' ≡ mid_own own mid) × (new ≡ mid_world w there) → mid.kept ≡ own.locals.now → there.kept ≡ w.store.now → locals.now ≡ own'.locals.kept → store.now ≡ new.store.kept
-    → (◌≡◌ {A = control.Control} (record { function = own'.function; locals = locals.now; point = point_of_at own'.at; callers = callers_of own'.callers }) (control_of own)) × (◌≡◌ {A = actions.World} (record { blocks = store.now; output = new.output.items; threads = map thread_of new.threads.items; reached = map reached_of new.reached.items }) (world_of w))
+    → (◌≡◌ {A = control.Control} (record { function = own'.function; locals = locals.now; point = point_of_at own'.at; callers = callers_of own'.callers; touched = touches_in own'.touched }) (control_of own)) × (◌≡◌ {A = actions.World} (record { blocks = store.now; output = new.output.items; threads = map thread_of new.threads.items; reached = map reached_of new.reached.items }) (world_of w))
 stays_back own own' w new mid locals there store same l k n m =
-    (own_back own (mid_own own mid) own' locals same.0 refl refl refl l n, world_back w (mid_world w there) new store same.1 refl refl refl k m)
+    (own_back own (mid_own own mid) own' locals same.0 refl refl refl refl l n, world_back w (mid_world w there) new store same.1 refl refl refl k m)

@@ -1,5 +1,5 @@
 -- What a run of a program is, as a caller of the interpreter sees it.
-use Rattle.std.specs.Prelude.{◌≡◌, ℕ, ◌==◌, Bool, if◌then◌else◌, List, slice_get, Option, Some, None, ℤ}
+use Rattle.std.specs.Prelude.{◌≡◌, ℕ, ◌==◌, Bool, if◌then◌else◌, List, [], slice_get, Option, Some, None, ℤ}
 use Rattle.ak_words.specs.IntType.{int}
 use Rattle.ak_words.specs.Wrapped.{wrapped_value}
 use Rattle.block_store.specs.Actions as actions
@@ -7,6 +7,7 @@ use Rattle.block_store.specs.Runs as runs
 use Rattle.c_tree.specs.Typed as tree
 use Rattle.c_meaning.specs.Control.{Control}
 use Rattle.c_meaning.specs.Meaning.{program}
+use Rattle.race_rules.specs.declared.touch.Touch.{Touch}
 use Rattle.source_tree.specs.SharedViews.{program_of}
 use Rattle.source_state.specs.declared.world.World.{World}
 use Rattle.source_state.specs.Worlds.{world_of}
@@ -16,11 +17,13 @@ use Rattle.block_meaning.specs.declared.running.SourceRun.{SourceRun}
 use Rattle.block_meaning.specs.declared.running.Turned.{Turned}
 use Rattle.block_meaning.specs.declared.running.Turned.TheVariants as turneds
 
--- a run: the program, the state that it has come to, the bytes that its last turn asked for, and whether memory was wanting
+-- a run: the program, the state that it has come to, the bytes that its last turn asked for, what that turn touched, and whether memory
+-- was wanting
 pub record Running : Type 0 where
   pub typed : tree.Typed
   pub state : runs.State Control
   pub asked : Option ℕ
+  pub touched : List Touch
   pub out_of_memory : Bool
 
 -- the number that a thread's first function has returned, as an int
@@ -81,6 +84,22 @@ IsAsBefore (turneds.Ended value) before after = Unit {0}
 abbrev pub state_in : List (Option Own) → World → runs.State Control
 state_in all w = record { world = world_of w; own = owns_of all }
 
--- what a run is: its program, the state that it has come to, what its last turn asked for, and whether memory was wanting
+-- what a thread touched in its last turn: one that has ended touched nothing
+abbrev pub touched_by_own : Option Control → List Touch
+touched_by_own None = []
+touched_by_own (Some c) = c.touched
+
+-- what the last turn touched, by the thread that took it, if it was done
+abbrev pub touched_last : Option ℕ → List (Option Control) → List Touch
+touched_last None all = []
+touched_last (Some thread) all = touched_by_own (runs.own_at all thread)
+
+-- what a run is: its program, the state that it has come to, what its last turn asked for and touched, and whether memory was wanting
 abbrev pub running_of : SourceRun → Running
-running_of r = record { typed = program_of r.program; state = state_in r.threads.items r.world; asked = r.asked; out_of_memory = r.out_of_memory }
+running_of r = record {
+  typed = program_of r.program;
+  state = state_in r.threads.items r.world;
+  asked = r.asked;
+  touched = touched_last r.last (owns_of r.threads.items);
+  out_of_memory = r.out_of_memory;
+}

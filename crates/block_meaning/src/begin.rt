@@ -11,6 +11,7 @@ ghost use Rattle.source_state.specs.Views.{todo_of};
 ghost use Rattle.block_meaning.specs.Threads.{control_of};
 
 use crate::thread::{At, Own};
+use crate::touch_list::Touches;
 use ak_words::NoMemory;
 use block_store::{Ptr, Value};
 use source_state::control::Todo;
@@ -91,6 +92,7 @@ fn begun_nowhere(alloc: Global, function: u32) -> Result<Own, NoMemory>
         locals: Locals::new(alloc, Vec::new(alloc)),
         at: At::Begins(leaves),
         callers: Vec::new(alloc),
+        touched: Touches::None,
     })
 }
 
@@ -106,6 +108,7 @@ fn begun_in(alloc: Global, f: &SharedFunc, function: u32, argument: Ptr) -> Resu
         locals: Locals::new(alloc, locals),
         at: At::Begins(body),
         callers: Vec::new(alloc),
+        touched: Touches::None,
     })
 }
 

@@ -17,11 +17,13 @@ ghost use Rattle.block_meaning.specs.inner.Turns.{turn_of, rest_of, ends_in, IsT
 
 use crate::begin::{first_locals, whole_body};
 use crate::thread::{At, Caller, Outcome, Own};
+use crate::touch_list::Touches;
+use crate::touches::{compare_of, finish, gather};
 use ak_words::{NoMemory, Num};
 use block_store::{Answer, Value};
 use c_tree::typed::Lib;
 use source_expressions::list_of;
-use source_state::control::{LoopParts, Pending, Then, Todo, Values, Wait};
+use source_state::control::{LoopParts, Pending, Site, Then, Todo, Values, Wait};
 use source_state::{Done, KeptStore, Locals, SharedAction, Variable, World};
 use source_tree::tree::{Callee, SharedFunc, SharedProgram};
 use std::alloc::Global;
@@ -131,22 +133,26 @@ fn act(
     program: &SharedProgram,
     thread: u32,
     answer: Answer,
-    place: u32,
+    site: Site,
     action: SharedAction,
     then: Then,
 ) -> Result<Outcome, NoMemory>
-    ensures turned { IfOk result (λ o. turn_of o own.new world.new ≡ ends_in program.now thread answer own.old world.old (pendings.Act place action then)) }
+    ensures turned { IfOk result (λ o. turn_of o own.new world.new ≡ ends_in program.now thread answer own.old world.old (pendings.Act site action then)) }
     ensures untouched { IfOk result (λ o. Untouched o own.old own.new world.old world.new) }
 {
+    let gathered = gather(alloc, world, answer, site, &action)?;
+    let compared = compare_of(&action);
     match world.act(alloc, thread, answer, action)? {
         Done::Went(v) => {
+            let touched = finish(gathered, compared, v)?;
             let at = after_action(alloc, then, v)?;
             own.at = at;
+            own.touched = touched;
             Ok(Outcome::Went)
         }
         Done::Blocked => Ok(Outcome::Blocked),
         Done::Unfit => Ok(Outcome::Unfit),
-        Done::Broke(rule) => Ok(Outcome::Broke(rule, place)),
+        Done::Broke(rule) => Ok(Outcome::Broke(rule, site.place)),
     }
 }
 
@@ -209,6 +215,7 @@ fn enter_in(
     wait(&mut own.callers, caller)?;
     own.function = number;
     own.at = At::Begins(body);
+    own.touched = Touches::None;
     Ok(())
 }
 
@@ -231,6 +238,7 @@ fn end_round(
         Answer::None => Outcome::Unfit,
         Answer::Plain => {
             own.at = At::Round(l, k);
+            own.touched = Touches::None;
             Outcome::Went
         }
     }
@@ -316,6 +324,7 @@ fn go_back(
             own.locals = locals;
             let at = after_call(wait, value);
             own.at = at;
+            own.touched = Touches::None;
             Ok(Outcome::Went)
         }
     }
@@ -374,9 +383,9 @@ pub fn perform(
 {
     match q {
         Pending::Broke(rule, place) => Ok(Outcome::Broke(rule, place)),
-        Pending::Act(place, action, then) => {
+        Pending::Act(site, action, then) => {
             let acted = act(
-                own, world, alloc, program, thread, answer, place, action, then,
+                own, world, alloc, program, thread, answer, site, action, then,
             )?;
             Ok(acted)
         }

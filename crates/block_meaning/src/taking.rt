@@ -10,7 +10,7 @@ ghost use Rattle.source_tree.specs.SharedViews.{program_of};
 ghost use Rattle.source_state.specs.Worlds.{stage_of, world_of};
 ghost use Rattle.block_meaning.specs.Threads.{control_of, owns_of};
 ghost use Rattle.block_meaning.specs.Asking.{wish, AreAskedOf};
-ghost use Rattle.block_meaning.specs.Running.{answered, answered_if, left_by, ended_by, ended_with, returned_at, state_in};
+ghost use Rattle.block_meaning.specs.Running.{answered, answered_if, left_by, ended_by, ended_with, returned_at, state_in, touched_by_own};
 ghost use Rattle.block_meaning.specs.inner.Turns.{turn_of};
 ghost use Rattle.block_meaning.specs.inner.Starts.{owns_behind};
 
@@ -20,6 +20,7 @@ use crate::thread::{Outcome, Own};
 use crate::turn::take_turn;
 use ak_words::{IntType, NoMemory, Num};
 use block_store::Answer;
+use race_rules::Touch;
 use source_state::{Stage, World};
 use source_tree::tree::SharedProgram;
 use std::alloc::Global;
@@ -57,6 +58,18 @@ pub fn is_running(threads: &[Option<Own>], thread: u32) -> bool
     match threads.get(thread as usize) {
         Some(own) => own.is_some(),
         None => false,
+    }
+}
+
+/// What the thread of this number touched in its last turn, if it was made and hasn't ended.
+#[tactic(auto, using(crate::proofs::Picks::taken_steps))]
+pub fn touched_in(threads: &[Option<Own>], thread: u32) -> &[Touch]
+    ensures { result.now ≡ touched_by_own (runs.own_at (owns_of threads.now) thread) }
+{
+    match threads.get(thread as usize) {
+        Some(Some(own)) => own.touched.all(),
+        Some(None) => &[],
+        None => &[],
     }
 }
 

@@ -1,3 +1,4 @@
+use crate::touch_list::Touches;
 use ak_words::Rule;
 use block_store::Value;
 use source_state::Locals;
@@ -28,7 +29,7 @@ pub struct Caller {
     pub wait: Wait,
 }
 
-/// What a thread has of its own: the call under way, where it is, and the calls that wait, the farthest first.
+/// What a thread has of its own: the call under way, where it is, the calls that wait, the farthest first, and what its last turn touched.
 #[derive(Drop)]
 pub struct Own {
     /// The function of the call.
@@ -39,6 +40,8 @@ pub struct Own {
     pub at: At,
     /// The calls that wait.
     pub callers: Vec<Caller>,
+    /// What its last turn touched, in order.
+    pub touched: Touches,
 }
 
 /// What comes of a turn of a thread.

@@ -1,23 +1,20 @@
 //! What an action touches.
 
-ghost use Rattle.std.specs.Prelude.{◌≡◌, ◌++◌, ◌×◌, ℕ, Bool, true, IfOk, IfSome, OnOk, map};
-ghost use Rattle.block_store.specs.Actions as actions;
-ghost use Rattle.block_store.specs.Actions.{bytes_at, reading_part, reading_parts};
-ghost use Rattle.block_store.specs.declared.values.Answer.{Answer};
-ghost use Rattle.c_meaning.specs.Touches.{each, of_thread, read_kind, renewal, starting, touches_of, whole_block, write_kind};
+ghost use Rattle.std.specs.Prelude.{◌≡◌, ◌+◌, ◌++◌, Bool, true, Some, IfOk, IfSome, OnOk, length, map};
+ghost use Rattle.block_store.specs.Actions.{bytes_at, reading_parts, writing};
+ghost use Rattle.c_meaning.specs.Touches.{each, of_thread, read_kind, renewal, starting, whole_block, write_kind};
+ghost use Rattle.race_rules.specs.declared.touch.TouchKind.TheVariants as kinds;
 ghost use Rattle.source_state.specs.Worlds.{action_of, printed_of, world_of};
-ghost use Rattle.block_meaning.specs.inner.Touches.{GainsOnly, before_its_end, end_of};
+ghost use Rattle.block_meaning.specs.Threads.{touches_in};
+ghost use Rattle.block_meaning.specs.inner.Touches.{GainsOnly, ReadsPart, before_its_end, comparing_of, end_of, says_equal};
 
+use crate::touch_list::Touches;
 use ak_words::NoMemory;
 use block_store::{Answer, Ptr, Value};
 use race_rules::{Touch, TouchKind};
-use smallvec::SmallVec;
 use source_state::control::Site;
 use source_state::{Printed, SharedAction, World};
 use std::alloc::Global;
-
-/// What a turn touched, in order.
-pub type Touches = SmallVec<Touch, 2>;
 
 /// The two numbers that a compare reaches, of so many bytes: which of them it writes is known once it is done.
 #[derive(Clone, Copy, Debug, PartialEq, Eq)]
@@ -33,6 +30,7 @@ pub struct Comparing {
 /// Touches that are gathered, each named at one place.
 #[derive(Drop)]
 pub struct Gathered {
+    alloc: Global,
     /// The place.
     pub place: u32,
     /// The touches.
@@ -46,35 +44,62 @@ impl Gathered {
 
     // No touches.
     fn new(alloc: Global, place: u32) -> Self
-        ensures { result.touches.items ≡ [] }
+        ensures touches { touches_in result.touches ≡ [] }
         ensures place { result.place ≡ place }
         ensures fits { result.fits ≡ true }
     {
         Gathered {
             place,
-            touches: SmallVec::new(alloc),
+            alloc,
+            touches: Touches::None,
             fits: true,
         }
     }
 
     // So many bytes at a pointer are touched, where there is one and the pointer isn't null.
     fn bytes(&mut self, kind: TouchKind, at: Ptr, bytes: u128) -> Result<(), NoMemory>
-        ensures { OnOk result ((writes : Bool) → GainsOnly self.old self.new (each self.old.place kind (bytes_at writes bytes at))) }
+        ensures { (writes : Bool) → OnOk result (GainsOnly self.old self.new (each self.old.place kind (bytes_at writes bytes at))) }
     {
-        if let Ptr::To { block, offset } = at {
-            if bytes > 0 {
-                match end_below(offset, bytes) {
-                    Some(to) => self.touches.push(Touch {
+        let Ptr::To { block, offset } = at else {
+            return Ok(());
+        };
+        if bytes == 0 {
+            return Ok(());
+        }
+        match end_below(offset, bytes) {
+            None => {
+                self.fits = false;
+                Ok(())
+            }
+            Some(to) => {
+                self.touches.push(
+                    self.alloc,
+                    Touch {
                         kind,
                         block,
                         from: offset,
                         to,
                         place: self.place,
-                    })?,
-                    None => self.fits = false,
-                }
+                    },
+                )?;
+                Ok(())
             }
         }
+    }
+
+    // So many bytes at each of two pointers are touched.
+    fn two(
+        &mut self,
+        first: TouchKind,
+        from: Ptr,
+        second: TouchKind,
+        to: Ptr,
+        bytes: u128,
+    ) -> Result<(), NoMemory>
+        ensures { (a b : Bool) → OnOk result (GainsOnly self.old self.new (each self.old.place first (bytes_at a bytes from) ++ each self.old.place second (bytes_at b bytes to))) }
+    {
+        self.bytes(first, from, bytes)?;
+        self.bytes(second, to, bytes)?;
         Ok(())
     }
 
@@ -86,7 +111,8 @@ impl Gathered {
             Ptr::Null => Ok(()),
             Ptr::To { block, offset: _ } => {
                 let size = world.store.store().live_size(block).unwrap_or(0);
-                self.bytes(kind, Ptr::To { block, offset: 0 }, u128::from(size))
+                self.bytes(kind, Ptr::To { block, offset: 0 }, u128::from(size))?;
+                Ok(())
             }
         }
     }
@@ -95,24 +121,31 @@ impl Gathered {
     fn renewal(&mut self, world: &World, answer: Answer, at: Ptr) -> Result<(), NoMemory>
         ensures { OnOk result (GainsOnly self.old self.new (renewal self.old.place answer (world_of world.now).blocks at)) }
     {
-        if let Answer::Got = answer {
-            self.whole_block(TouchKind::Read, world, at)?;
-            self.whole_block(TouchKind::Write, world, at)?;
+        match answer {
+            Answer::Plain => Ok(()),
+            Answer::None => Ok(()),
+            Answer::Got => {
+                self.whole_block(TouchKind::Read, world, at)?;
+                self.whole_block(TouchKind::Write, world, at)?;
+                Ok(())
+            }
         }
-        Ok(())
     }
 
     // A thread is made or joined.
     fn of_thread(&mut self, kind: TouchKind) -> Result<(), NoMemory>
         ensures { OnOk result (GainsOnly self.old self.new (of_thread self.old.place kind ∷ [])) }
     {
-        self.touches.push(Touch {
-            kind,
-            block: 0,
-            from: 0,
-            to: 0,
-            place: self.place,
-        })?;
+        self.touches.push(
+            self.alloc,
+            Touch {
+                kind,
+                block: 0,
+                from: 0,
+                to: 0,
+                place: self.place,
+            },
+        )?;
         Ok(())
     }
 
@@ -120,51 +153,152 @@ impl Gathered {
     fn starting(&mut self, world: &World, answer: Answer, to: Ptr) -> Result<(), NoMemory>
         ensures { OnOk result (GainsOnly self.old self.new (starting self.old.place answer to (length (world_of world.now).threads))) }
     {
-        if let Answer::Got = answer {
-            self.bytes(TouchKind::Write, to, 8)?;
-            match u32::try_from(world.threads.len()) {
-                Ok(number) => self.of_thread(TouchKind::Start(number))?,
-                Err(_) => self.fits = false,
+        match answer {
+            Answer::Plain => Ok(()),
+            Answer::None => Ok(()),
+            Answer::Got => {
+                self.bytes(TouchKind::Write, to, 8)?;
+                self.start(world.threads.len())?;
+                Ok(())
             }
         }
+    }
+
+    // A thread of this number is made.
+    fn start(&mut self, number: usize) -> Result<(), NoMemory>
+        ensures { OnOk result (GainsOnly self.old self.new (of_thread self.old.place (kinds.Start number) ∷ [])) }
+    {
+        if number > u32::MAX as usize {
+            self.fits = false;
+            return Ok(());
+        }
+        self.of_thread(TouchKind::Start(number as u32))?;
+        Ok(())
+    }
+
+    // A thread of this number is waited for.
+    fn join(&mut self, number: u128) -> Result<(), NoMemory>
+        ensures { OnOk result (GainsOnly self.old self.new (of_thread self.old.place (kinds.Join number) ∷ [])) }
+    {
+        if number > u32::MAX as u128 {
+            self.fits = false;
+            return Ok(());
+        }
+        self.of_thread(TouchKind::Join(number as u32))?;
         Ok(())
     }
 
     // The thread of this number is joined.
     fn joining(&mut self, number: u128, to: Ptr) -> Result<(), NoMemory>
-        ensures { OnOk result (GainsOnly self.old self.new (each self.old.place Write (writing 4 to) ++ of_thread self.old.place (Join number) ∷ [])) }
+        ensures { OnOk result (GainsOnly self.old self.new (each self.old.place kinds.Write (writing 4 to) ++ of_thread self.old.place (kinds.Join number) ∷ [])) }
     {
         self.bytes(TouchKind::Write, to, 4)?;
-        if number > u32::MAX as u128 {
-            self.fits = false;
-            return Ok(());
-        }
-        self.of_thread(TouchKind::Join(number as u32))
+        self.join(number)?;
+        Ok(())
     }
 
     // Texts are read.
     fn print(&mut self, world: &World, parts: &[Printed]) -> Result<(), NoMemory>
-        ensures { OnOk result (GainsOnly self.old self.new (each self.old.place Read (reading_parts (world_of world.now).blocks (map printed_of parts.now)))) }
+        ensures { OnOk result (GainsOnly self.old self.new (each self.old.place kinds.Read (reading_parts (world_of world.now).blocks (map printed_of parts.now)))) }
     {
         'parts: for part in parts {
-            self.part(world, part)?;
+            self.read_part(world, part)?;
         }
         Ok(())
     }
 
     // A part of what is printed is read; a text with the zero byte that ends it.
-    fn part(&mut self, world: &World, part: &Printed) -> Result<(), NoMemory>
+    fn read_part(&mut self, world: &World, part: &Printed) -> Result<(), NoMemory>
         ensures { OnOk result (ReadsPart self.old self.new (world_of world.now).blocks (printed_of part.now)) }
     {
         match part {
             Printed::Bytes(_) => Ok(()),
             Printed::Text(at) => match world.store.store().text_len(*at) {
-                Ok(length) => self.bytes(TouchKind::Read, *at, u128::from(length) + 1),
+                Ok(length) => {
+                    self.bytes(TouchKind::Read, *at, u128::from(length) + 1)?;
+                    Ok(())
+                }
                 Err(_) => {
                     self.fits = false;
                     Ok(())
                 }
             },
+        }
+    }
+
+    // What an action touches that is done, but for the end of a compare.
+    fn action(
+        &mut self,
+        world: &World,
+        answer: Answer,
+        atomic: bool,
+        action: &SharedAction,
+    ) -> Result<(), NoMemory>
+        ensures { OnOk result (GainsOnly self.old self.new (before_its_end self.old.place (world_of world.now) answer atomic (action_of action.now))) }
+    {
+        match action {
+            SharedAction::Load(at, how) => self.bytes(
+                read_kind(atomic),
+                *at,
+                u128::from(how.size()),
+            ),
+            SharedAction::Store(at, v) => {
+                self.bytes(write_kind(atomic), *at, u128::from(v.access().size()))
+            }
+            SharedAction::Copy(to, from, n, _, _) => {
+                self.two(TouchKind::Read, *from, TouchKind::Write, *to, *n)
+            }
+            SharedAction::Allocate(_, _) => Ok(()),
+            SharedAction::Reallocate(at, _) => self.renewal(world, answer, *at),
+            SharedAction::Free(at) => self.whole_block(TouchKind::Write, world, *at),
+            SharedAction::Change(at, _, by) => {
+                let bytes = u128::from(by.ty.bits / 8);
+                self.two(
+                    TouchKind::AtomicRead,
+                    *at,
+                    TouchKind::AtomicWrite,
+                    *at,
+                    bytes,
+                )
+            }
+            SharedAction::Compare(at, want, new) => {
+                let bytes = u128::from(new.ty.bits / 8);
+                self.two(TouchKind::AtomicRead, *at, TouchKind::Read, *want, bytes)
+            }
+            SharedAction::Print(parts) => self.print(world, parts),
+            SharedAction::Lock(at) => self.bytes(TouchKind::Lock, *at, 8),
+            SharedAction::Unlock(at) => self.bytes(TouchKind::Unlock, *at, 8),
+            SharedAction::Destroy(at) => self.bytes(TouchKind::Write, *at, 8),
+            SharedAction::Start(to, _, _) => self.starting(world, answer, *to),
+            SharedAction::Join(number, to) => self.joining(*number, *to),
+            SharedAction::Finish(_) => Ok(()),
+        }
+    }
+
+    // What a compare touches at its end, where the action was one, by the value that it gave.
+    fn end(&mut self, c: Option<Comparing>, v: Option<Value>) -> Result<(), NoMemory>
+        ensures { OnOk result (GainsOnly self.old self.new (end_of self.old.place c v)) }
+    {
+        match c {
+            None => Ok(()),
+            Some(c) => {
+                self.compared(c, v)?;
+                Ok(())
+            }
+        }
+    }
+
+    // A compare writes its object where the numbers were equal, and else the wanted number.
+    fn compared(&mut self, c: Comparing, v: Option<Value>) -> Result<(), NoMemory>
+        ensures { OnOk result (GainsOnly self.old self.new (end_of self.old.place (Some c) v)) }
+    {
+        let equal = says_equal(v);
+        if equal {
+            self.bytes(TouchKind::AtomicWrite, c.at, u128::from(c.bytes))?;
+            Ok(())
+        } else {
+            self.bytes(TouchKind::Write, c.want, u128::from(c.bytes))?;
+            Ok(())
         }
     }
 }
@@ -209,46 +343,15 @@ pub fn gather(
     action: &SharedAction,
 ) -> Result<Gathered, NoMemory>
     ensures place { IfOk result (λ g. g.place ≡ site.place) }
-    ensures touches { IfOk result (λ g. g.fits ≡ true → g.touches.items ≡ before_its_end site.place (world_of world.now) answer site.atomic (action_of action.now)) }
+    ensures touches { IfOk result (λ g. g.fits ≡ true → touches_in g.touches ≡ before_its_end site.place (world_of world.now) answer site.atomic (action_of action.now)) }
 {
     let mut g = Gathered::new(alloc, site.place);
-    match action {
-        SharedAction::Load(at, how) => {
-            g.bytes(read_kind(site.atomic), *at, u128::from(how.size()))?
-        }
-        SharedAction::Store(at, v) => {
-            g.bytes(write_kind(site.atomic), *at, u128::from(v.access().size()))?
-        }
-        SharedAction::Copy(to, from, n, _, _) => {
-            g.bytes(TouchKind::Read, *from, *n)?;
-            g.bytes(TouchKind::Write, *to, *n)?;
-        }
-        SharedAction::Allocate(_, _) => {}
-        SharedAction::Reallocate(at, _) => g.renewal(world, answer, *at)?,
-        SharedAction::Free(at) => g.whole_block(TouchKind::Write, world, *at)?,
-        SharedAction::Change(at, _, by) => {
-            let bytes = u128::from(by.ty.bits / 8);
-            g.bytes(TouchKind::AtomicRead, *at, bytes)?;
-            g.bytes(TouchKind::AtomicWrite, *at, bytes)?;
-        }
-        SharedAction::Compare(at, want, new) => {
-            let bytes = u128::from(new.ty.bits / 8);
-            g.bytes(TouchKind::AtomicRead, *at, bytes)?;
-            g.bytes(TouchKind::Read, *want, bytes)?;
-        }
-        SharedAction::Print(parts) => g.print(world, parts)?,
-        SharedAction::Lock(at) => g.bytes(TouchKind::Lock, *at, 8)?,
-        SharedAction::Unlock(at) => g.bytes(TouchKind::Unlock, *at, 8)?,
-        SharedAction::Destroy(at) => g.bytes(TouchKind::Write, *at, 8)?,
-        SharedAction::Start(to, _, _) => g.starting(world, answer, *to)?,
-        SharedAction::Join(number, to) => g.joining(*number, *to)?,
-        SharedAction::Finish(_) => {}
-    }
+    g.action(world, answer, site.atomic, action)?;
     Ok(g)
 }
 
 /// The numbers that a compare reaches.
-pub fn comparing(action: &SharedAction) -> Option<Comparing>
+pub fn compare_of(action: &SharedAction) -> Option<Comparing>
     ensures { result ≡ comparing_of action.now }
 {
     match action {
@@ -261,18 +364,23 @@ pub fn comparing(action: &SharedAction) -> Option<Comparing>
     }
 }
 
-/// All touches of what was done, which gave this value: a compare writes the object where that is 1, and else the wanted number.
-/// None where one can't be told.
-pub fn finish(g: Gathered, c: Option<Comparing>, v: Option<Value>) -> Result<Option<Touches>, NoMemory>
-    ensures { IfOk result (λ o. IfSome o (λ t. (w next : actions.World) (thread : ℕ) (answer : Answer) (atomic : Bool) (action : SharedAction) → c ≡ comparing_of action → (g.fits ≡ true → g.touches.items ≡ before_its_end g.place w answer atomic (action_of action)) → actions.acted w thread answer (action_of action) ≡ actions.went v next → t.items ≡ touches_of g.place w answer atomic (action_of action))) }
+// Whether the value of a compare says that the numbers were equal.
+fn says_equal(v: Option<Value>) -> bool
+    ensures { result ≡ says_equal v }
+{
+    match v {
+        Some(Value::Num(n)) => n.value == 1,
+        Some(Value::Pointer(_)) => false,
+        None => false,
+    }
+}
+
+/// All touches of what was done, which gave this value. One that can't be told is answered as want of memory.
+pub fn finish(g: Gathered, c: Option<Comparing>, v: Option<Value>) -> Result<Touches, NoMemory>
+    ensures fits { OnOk result (g.fits ≡ true) }
+    ensures touches { IfOk result (λ all. touches_in all ≡ touches_in g.touches ++ end_of g.place c v) }
 {
     let mut g = g;
-    if let Some(c) = c {
-        let (kind, at) = match v {
-            Some(Value::Num(Num { value: 1, .. })) => (TouchKind::AtomicWrite, c.at),
-            _ => (TouchKind::Write, c.want),
-        };
-        g.bytes(kind, at, u128::from(c.bytes))?;
-    }
-    if g.fits { Ok(Some(g.touches)) } else { Ok(None) }
+    g.end(c, v)?;
+    if g.fits { Ok(g.touches) } else { Err(NoMemory) }
 }

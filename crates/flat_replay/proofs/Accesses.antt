@@ -85,19 +85,19 @@ module _ (follow : LinearCodeFollowsCode) (p : Ir) (guarded : IsGuarded p) (code
         (λ n.
         let b = due_behind (machine_of code) (rules_of s) (first_shared code (settings_limits s)) before x ran e y is n in
         step_cases (machine_of code) (rules_of s) b.z b.v x {R = ServesStayUpToAKind p code s before e}
-            (λ n'. absurd (none_next (machine_of code) (rules_of s) (first_shared code (settings_limits s)) b.front b.z b.ran b.v x b.kind_is b.how_is n'))
-            (λ f. let t = serves_first b.front b.v b.z x b.ran b.st f.settled b.kind_is f in record {
-              front = b.front;
-              behind = inr (b.v, b.is, b.kind_is, b.how_is, b.apart);
-              here = b.z;
-              leads = leads b.front b.v b.z x b.ran b.st f.settled;
-              alone = t.alone;
-              next = y;
-              goes = ran_on code s before x e y ran st;
-              memory = ap (λ (z : State Shared Context). z.shared.memory) n.is ∙ t.memory;
-              keeps = t.keeps;
-            })
-            b.st)
+        (λ n'. absurd (none_next (machine_of code) (rules_of s) (first_shared code (settings_limits s)) b.front b.z b.ran b.v x b.kind_is b.how_is n'))
+        (λ f. let t = serves_first b.front b.v b.z x b.ran b.st f.settled b.kind_is f in record {
+          front = b.front;
+          behind = inr (b.v, b.is, b.kind_is, b.how_is, b.apart);
+          here = b.z;
+          leads = leads b.front b.v b.z x b.ran b.st f.settled;
+          alone = t.alone;
+          next = y;
+          goes = ran_on code s before x e y ran st;
+          memory = ap (λ (z : State Shared Context). z.shared.memory) n.is ∙ t.memory;
+          keeps = t.keeps;
+        })
+        b.st)
         (λ f. let t = serves_first before e x y ran st f.settled is f in record {
           front = before;
           behind = inl refl;

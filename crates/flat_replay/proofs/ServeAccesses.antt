@@ -133,8 +133,8 @@ module _ (p : Ir) (code : LinearCode) (s : Settings) (program : IsProgram code)
     pub keeps : let y = image_of code (middle code s x) in (vs : List Serve) (v : Serve) (us : List Serve) → sweep_serves y (at_home (middle code s x) (homes_of x.places)) ≡ vs ++ v ∷ us
         → (q : Thread Spot Words) × (own_at (after_serves y vs (swept_first code (middle code s x) x)).own v.thread ≡ Some (waiting q))
         × UpToAKind p (journal_picks log ++ picks_of_serves y vs (swept_first code (middle code s x) x))
-            (λ u. StandsBy y p (ids_told log ++ served_ids vs) u (served_state (after_serves y vs (swept_first code (middle code s x) x)))
-            × (TakesRightKinds p u v.thread → ServeStays y p (ids_told log ++ served_ids vs) u (served_state (after_serves y vs (swept_first code (middle code s x) x))) v q))
+        (λ u. StandsBy y p (ids_told log ++ served_ids vs) u (served_state (after_serves y vs (swept_first code (middle code s x) x)))
+        × (TakesRightKinds p u v.thread → ServeStays y p (ids_told log ++ served_ids vs) u (served_state (after_serves y vs (swept_first code (middle code s x) x))) v q))
 
   -- a barrier's entry, or its evacuation's, that begins an event
   pub serves_here : (e : Entry) (next : State Shared Context) → e.kind ≡ kind.barrier → IsFirst (machine_of code) (rules_of s) x e next → Serves next

@@ -9,7 +9,8 @@ ghost use Rattle.flat_replay.specs.Laws.{AJournalIsOfEvents, AccessesOfGuardedJo
 ghost use Rattle.flat_replay.specs.Rows.{full_attempts, BreaksStand, EndsStand, LastsStand, MeaningsStand, TriesStand};
 
 /// At each barrier of a journal that replays, whatever rules of C were broken before: no object moves that a listed slot names, the others
-/// slide down, and the object of each id in use keeps its bytes, at the address that the table then has.
+/// slide down, and the object of each id in use keeps its bytes, at the address that the table then has. At each evacuation's entry, where the
+/// setting asks for evacuations, the moves are legal and keep such objects and bytes, too; the barrier's own begin at what it leaves.
 pub fn barriers_of_a_run_keep_objects()
     ensures { BarriersOfARunKeepObjects }
 {}

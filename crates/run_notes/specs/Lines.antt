@@ -37,9 +37,13 @@ kind_number (kinds.OutsideSubset feature) = 32 ∷ decimal feature
 kind_number (kinds.TooMany count) = 32 ∷ decimal count
 kind_number _ = []
 
--- a place of a text, as the head of a line: the name of its file, its line and its column
+-- a place of a text: the name of its file, its line and its column
+abbrev pub spot_text : (name text : List ℕ) → ℕ → List ℕ
+spot_text name text place = name ++ codes ":" ++ decimal (line_at text place) ++ codes ":" ++ decimal (column_at text place)
+
+-- and as the head of a line
 abbrev pub place_text : (name text : List ℕ) → ℕ → List ℕ
-place_text name text place = name ++ codes ":" ++ decimal (line_at text place) ++ codes ":" ++ decimal (column_at text place) ++ codes ": "
+place_text name text place = spot_text name text place ++ codes ": "
 
 -- the line of a text that is refused, of the file with this name
 abbrev pub refusal_line : (name text : List ℕ) → ℕ → Kind → List ℕ

@@ -11,6 +11,8 @@ use Rattle.run_notes.specs.Lines.{built_line, fault_line}
 use Rattle.ak_words.specs.declared.rule.Rule.TheVariants.{C5, C13}
 use Rattle.ak_trace.specs.declared.endings.Verdict.TheVariants as verdicts
 use Rattle.run_notes.specs.Checks.{check_line}
+use Rattle.run_notes.specs.declared.races.RaceNote.TheVariants as notes
+use Rattle.run_notes.specs.Races.{race_line, status_with}
 use Rattle.run_notes.specs.Statuses.{number_of}
 use Rattle.pin_checker.specs.declared.fault.Why.TheVariants as reasons
 
@@ -120,6 +122,26 @@ checked_lines = refl
 pub numbers_of_checks : map number_of (statuses.Checked (verdicts.Broke C5 34 0) ∷ statuses.Checked (verdicts.Ended (pos 6) 2) ∷ statuses.Checked (verdicts.AllBlocked 3)
     ∷ statuses.Checked (verdicts.TurnsSpent 1000) ∷ []) ≡ 12 ∷ 0 ∷ 0 ∷ 0 ∷ []
 numbers_of_checks = refl
+
+-- main and a thread write x, and main only joins then: in the second line, at its 48th byte, and in the first, at its 22nd
+pub racing_line : race_line (codes "a.c") (codes "int x;int f(void *v){x=1;return 0;}\nint main(void){thrd_t t;thrd_create(&t,f,NULL);x=2;thrd_join(t,NULL);return 0;}")
+    (notes.Race (record { place = 83; turn = 1 }) (record { place = 21; turn = 3 })) ≡ codes "race: a.c:2:48 and a.c:1:22, turns 1 and 3\n"
+unfolding digits
+racing_line = refl
+
+-- a run of which no two accesses race, one in which a rule is broken first, and one that wasn't judged
+pub judged_lines : race_line (codes "a.c") [] notes.Clean ++ race_line (codes "a.c") [] (notes.Broke C13 1) ++ race_line (codes "a.c") [] notes.NotJudged
+    ≡ codes "race: none\nrace: broke C13 after 1 turns\nrace: not judged\n"
+unfolding digits
+judged_lines = refl
+
+pub statuses_of_races : map (λ note. status_with note (statuses.Done (pos 6)))
+    (notes.Clean ∷ notes.Race (record { place = 83; turn = 1 }) (record { place = 21; turn = 3 }) ∷ notes.Broke C13 1 ∷ notes.NotJudged ∷ [])
+    ≡ statuses.Done (pos 6) ∷ statuses.Raced 83 21 ∷ statuses.Done (pos 6) ∷ statuses.NoMemory ∷ []
+statuses_of_races = refl
+
+pub number_of_races : number_of (statuses.Raced 83 21) ≡ 13
+number_of_races = refl
 
 -- code that was built, code that is none, and code that isn't safe for moves
 pub built_lines : built_line 0 ++ built_line 1234 ≡ codes "built: 0 bytes\nbuilt: 1234 bytes\n"

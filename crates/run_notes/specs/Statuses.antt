@@ -28,6 +28,7 @@ number_of statuses.OutputLimit = 9
 number_of (statuses.StackLimit thread) = 10
 number_of statuses.NoMemory = 11
 number_of (statuses.Checked verdict) = number_of_check verdict
+number_of (statuses.Raced first second) = 13
 number_of statuses.Built = 0
 number_of statuses.CodeTooDeep = 14
 number_of (statuses.BadCode at) = 15

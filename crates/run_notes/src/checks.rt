@@ -1,4 +1,4 @@
-ghost use Rattle.std.specs.Prelude.{◌≡◌, ◌++◌, codes, IfOk, OnOk};
+ghost use Rattle.std.specs.Prelude.{◌≡◌, ◌≤◌, ◌++◌, codes, length, IfOk, OnOk};
 ghost use Rattle.run_notes.specs.Checks.{after, check_line, rule_name};
 ghost use Rattle.run_notes.specs.Lines.{place_text};
 
@@ -7,9 +7,10 @@ use ak_trace::Verdict;
 use ak_words::{NoMemory, Rule};
 use std::alloc::Global;
 
-// The name of a rule of C.
-fn name_of_rule(rule: Rule) -> &'static [u8]
-    ensures { result.now ≡ rule_name rule }
+/// The name of a rule of C.
+pub fn name_of_rule(rule: Rule) -> &'static [u8]
+    ensures name { result.now ≡ rule_name rule }
+    ensures short { length result.now ≤ 3 }
 {
     match rule {
         Rule::C1 => b"C1",

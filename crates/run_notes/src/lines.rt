@@ -8,8 +8,8 @@ use c_lex::Kind;
 use itoa::{Buffer, Integer};
 use std::alloc::Global;
 
-// The line of the text that a place stands in, from 1.
-fn line_number(text: &[u8], place: usize) -> usize
+/// The line of the text that a place stands in, from 1.
+pub fn line_number(text: &[u8], place: usize) -> usize
     ensures { result ≡ line_at text.now place }
 {
     let before = &text[..place.min(text.len())];
@@ -27,8 +27,8 @@ fn tail_len(bytes: &[u8]) -> usize
         .count()
 }
 
-// Where in its line a place stands, in bytes from 1.
-fn column_number(text: &[u8], place: usize) -> usize
+/// Where in its line a place stands, in bytes from 1.
+pub fn column_number(text: &[u8], place: usize) -> usize
     ensures { result ≡ column_at text.now place }
 {
     tail_len(&text[..place.min(text.len())]) + 1

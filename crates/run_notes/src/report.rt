@@ -185,6 +185,7 @@ pub fn push_report(text: &mut Vec<u8>, evacuates: bool, end: End, report: &Repor
     requires reserved { 1024 ≤ vec_capacity text.old }
     ensures text { text.new.items ≡ report_text evacuates end report.now }
     ensures short { length text.new.items ≤ 1024 }
+    ensures capacity { vec_capacity text.new ≡ vec_capacity text.old }
 {
     push_ended(text, end);
     push_count(text, b"threads", u64::from(report.threads));

@@ -32,6 +32,8 @@ pub enum Status {
     NoMemory,
     /// The text was checked against the rules of C, and this was found.
     Checked(Verdict),
+    /// The run ended, and two of its accesses race: their places, as byte offsets from 0, that of the earlier turn first.
+    Raced(u32, u32),
     /// The code of the text was written.
     Built,
     /// The code of the text has nodes that are nested deeper than a code file may have them.
@@ -83,6 +85,7 @@ impl Status {
             Status::StackLimit(_) => 10,
             Status::NoMemory => 11,
             Status::Checked(verdict) => number_of_check(verdict),
+            Status::Raced(_, _) => 13,
             Status::Built => 0,
             Status::CodeTooDeep => 14,
             Status::BadCode(_) => 15,

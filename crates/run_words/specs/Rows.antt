@@ -1,7 +1,7 @@
 -- Words worked by hand.
 use Rattle.std.specs.Prelude.{◌≡◌, ℕ, true, false, List, [], ◌∷◌, codes, map, Some, None, replicate, refl}
 use Rattle.clap.proofs.OnLiterals.{clap_on_literals}
-use Rattle.flat_rules.specs.declared.settings.Mode.TheVariants.{Run, Churn, Check, Build, Load}
+use Rattle.flat_rules.specs.declared.settings.Mode.TheVariants.{Run, Churn, Check, Race, Build, Load}
 use Rattle.run_words.specs.Numbers.{number_in}
 use Rattle.run_words.specs.Command.{alaska, are_taken, value_in}
 use Rattle.run_words.specs.Wanted.{Wanted, settings_of, wanted_by}
@@ -71,7 +71,13 @@ pub check : settings_of (called (codes "a.c" ∷ codes "--mode" ∷ codes "check
 unfolding settings_of are_taken alaska value_in wanted_by number_in clap_on_literals
 check = refl
 
--- modes build and load have a file, and may have the same options
+-- mode race has a file, and may have the same options
+pub race : settings_of (called (codes "--mode" ∷ codes "race" ∷ codes "a.c" ∷ codes "--workers=2" ∷ codes "--schedule" ∷ codes "7" ∷ []))
+    ≡ Some (record plain { workers = 2; schedule = Some 7; mode = Race })
+unfolding settings_of are_taken alaska value_in wanted_by number_in clap_on_literals
+race = refl
+
+-- and so do modes build and load
 pub build : settings_of (called (codes "--mode=build" ∷ codes "a.c" ∷ [])) ≡ Some (record plain { mode = Build })
 unfolding settings_of are_taken alaska value_in wanted_by number_in clap_on_literals
 build = refl
@@ -118,8 +124,7 @@ pub more_wrong_words_want_nothing : map settings_of more_wrong_words ≡ replica
 unfolding settings_of are_taken alaska value_in wanted_by number_in clap_on_literals
 more_wrong_words_want_nothing = refl
 
--- and of modes: a check, a build or a load without a file, or with a seed or a size, a mode of another spelling, and mode race, which has no
--- word yet
+-- and of modes: a check, a race, a build or a load without a file, or with a seed or a size, and a mode of another spelling
 abbrev pub wrong_modes : List (List (List ℕ))
 wrong_modes = map called ((codes "--mode" ∷ codes "check" ∷ [])
     ∷ (codes "a.c" ∷ codes "--mode" ∷ codes "check" ∷ codes "--seed" ∷ codes "1" ∷ [])
@@ -129,9 +134,10 @@ wrong_modes = map called ((codes "--mode" ∷ codes "check" ∷ [])
     ∷ (codes "--mode" ∷ codes "load" ∷ [])
     ∷ (codes "a.c" ∷ codes "--mode" ∷ codes "load" ∷ codes "--size" ∷ codes "3" ∷ [])
     ∷ (codes "a.c" ∷ codes "--mode" ∷ codes "Load" ∷ [])
-    ∷ (codes "a.c" ∷ codes "--mode" ∷ codes "race" ∷ [])
+    ∷ (codes "--mode" ∷ codes "race" ∷ [])
+    ∷ (codes "a.c" ∷ codes "--mode" ∷ codes "race" ∷ codes "--seed" ∷ codes "1" ∷ [])
     ∷ [])
 
-pub wrong_modes_want_nothing : map settings_of wrong_modes ≡ replicate 9 None
+pub wrong_modes_want_nothing : map settings_of wrong_modes ≡ replicate 10 None
 unfolding settings_of are_taken alaska value_in wanted_by number_in clap_on_literals
 wrong_modes_want_nothing = refl

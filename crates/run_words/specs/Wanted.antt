@@ -1,5 +1,5 @@
 -- What the words of a command line want.
-use Rattle.std.specs.Prelude.{ℕ, ◌*◌, ◌&&◌, ◌==◌, Bool, false, List, codes, nat_le, Option, Some, None, is_none, is_some, option_and_then, option_map, string_bytes, if◌then◌else◌}
+use Rattle.std.specs.Prelude.{ℕ, ◌*◌, ◌&&◌, ◌==◌, Bool, List, codes, nat_le, Option, Some, None, is_none, is_some, option_and_then, option_map, string_bytes, if◌then◌else◌}
 use Rattle.std.specs.Str.{bytes_eq}
 use Rattle.flat_rules.specs.Ranges.{is_sub_heap_size}
 use Rattle.flat_rules.specs.declared.settings.Mode.{Mode}
@@ -42,13 +42,14 @@ wanted_of s = record {
   size = s.size;
 }
 
--- the mode of that name; mode race has none yet
+-- the mode of that name
 abbrev pub mode_named : List ℕ → Option Mode
 mode_named name = if bytes_eq name (codes "run") then Some Run
     else (if bytes_eq name (codes "churn") then Some Churn
     else (if bytes_eq name (codes "check") then Some Check
+    else (if bytes_eq name (codes "race") then Some Race
     else (if bytes_eq name (codes "build") then Some Build
-    else (if bytes_eq name (codes "load") then Some Load else None))))
+    else (if bytes_eq name (codes "load") then Some Load else None)))))
 
 -- the mode, which is run where the words name none
 abbrev pub mode_or_run : Option (List ℕ) → Option Mode
@@ -103,12 +104,12 @@ has_a_file w = is_some w.file && (is_none w.seed && is_none w.size)
 abbrev pub has_a_size : Wanted → Bool
 has_a_size w = is_none w.file && (is_some w.seed && is_some w.size)
 
--- modes run, check, build and load have a file; mode churn has none, but a seed and a size; nothing can be wanted of mode race yet
+-- modes run, check, race, build and load have a file; mode churn has none, but a seed and a size
 abbrev pub fits_mode_of : Mode → Wanted → Bool
 fits_mode_of Run w = has_a_file w
 fits_mode_of Churn w = has_a_size w
 fits_mode_of Check w = has_a_file w
-fits_mode_of Race w = false
+fits_mode_of Race w = has_a_file w
 fits_mode_of Build w = has_a_file w
 fits_mode_of Load w = has_a_file w
 

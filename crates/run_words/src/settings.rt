@@ -40,6 +40,7 @@ fn mode_or_run(matches: &ArgMatches) -> Option<Mode>
         None | Some("run") => Some(Mode::Run),
         Some("churn") => Some(Mode::Churn),
         Some("check") => Some(Mode::Check),
+        Some("race") => Some(Mode::Race),
         Some("build") => Some(Mode::Build),
         Some("load") => Some(Mode::Load),
         Some(_) => None,
@@ -109,14 +110,13 @@ fn has_a_size(settings: &Settings) -> bool
     settings.file.is_none() && settings.seed.is_some() && settings.size.is_some()
 }
 
-// Whether the settings are those of their mode. Nothing can be wanted of mode race yet.
+// Whether the settings are those of their mode.
 fn fits_mode(settings: &Settings) -> bool
     ensures { result ≡ fits_mode (wanted_of settings.now) }
 {
     match settings.mode {
-        Mode::Run | Mode::Check | Mode::Build | Mode::Load => has_a_file(settings),
+        Mode::Run | Mode::Check | Mode::Race | Mode::Build | Mode::Load => has_a_file(settings),
         Mode::Churn => has_a_size(settings),
-        Mode::Race => false,
     }
 }
 

@@ -4,7 +4,10 @@ use ak_words::{NoMemory, Rule};
 use c_lex::Kind;
 use pin_checker::Why;
 use run_edges::{MOST_BYTES, TextRead, read_text, write_ending};
-use run_notes::{Status, built_line, check_line, fault_line, push_report, status_of};
+use run_notes::{
+    RaceNote, RaceSide, Status, built_line, check_line, fault_line, push_race_line, push_report,
+    status_of, status_with,
+};
 use run_report::{LastBarrier, Report};
 use std::alloc::Global;
 use std::process::Abort;
@@ -130,6 +133,51 @@ fn lines_of_a_check(rt: HostRuntime) -> Result<(), Fail> {
     let line = check_line(rt.alloc(), "a.c", b"", ended)?;
     assert!(rt; line.as_slice() == b"checked: done -1 after 2 turns\n".as_slice());
     assert_eq!(rt; Status::Checked(ended).number(), 0);
+    Ok(())
+}
+
+// Main and a thread write x.
+const RACING: &[u8] =
+    b"int x;int f(void *v){x=1;return 0;}\nint main(void){thrd_t t;thrd_create(&t,f,NULL);x=2;thrd_join(t,NULL);return 0;}";
+
+const RACE: RaceNote = RaceNote::Race(
+    RaceSide { place: 83, turn: 1 },
+    RaceSide { place: 21, turn: 3 },
+);
+
+// The line of what was found of the races of a run of that text, which is a.c.
+fn has_race_line<R: Abort>(
+    rt: &R,
+    alloc: Global,
+    note: RaceNote,
+    line: &[u8],
+) -> Result<(), NoMemory> {
+    let mut told = Vec::with_capacity(alloc, 200)?;
+    push_race_line(&mut told, "a.c", RACING, note);
+    assert!(rt; told.as_slice() == line);
+    Ok(())
+}
+
+#[test]
+fn lines_of_races(rt: HostRuntime) -> Result<(), Fail> {
+    let alloc = rt.alloc();
+    let line = b"race: a.c:2:48 and a.c:1:22, turns 1 and 3\n";
+    has_race_line(&rt, alloc, RACE, line)?;
+    has_race_line(&rt, alloc, RaceNote::Clean, b"race: none\n")?;
+    let broke = RaceNote::Broke(Rule::C5, 1);
+    has_race_line(&rt, alloc, broke, b"race: broke C5 after 1 turns\n")?;
+    has_race_line(&rt, alloc, RaceNote::NotJudged, b"race: not judged\n")?;
+    Ok(())
+}
+
+#[test]
+fn statuses_of_races(rt: HostRuntime) -> Result<(), Fail> {
+    let end = status_of(End::Done(6));
+    assert_eq!(rt; status_with(RACE, end), Status::Raced(83, 21));
+    assert_eq!(rt; status_with(RACE, end).number(), 13);
+    assert_eq!(rt; status_with(RaceNote::Clean, end), end);
+    assert_eq!(rt; status_with(RaceNote::Broke(Rule::C5, 1), end), end);
+    assert_eq!(rt; status_with(RaceNote::NotJudged, end), Status::NoMemory);
     Ok(())
 }
 

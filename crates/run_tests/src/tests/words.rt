@@ -84,7 +84,17 @@ fn mode_check(rt: HostRuntime) -> Result<(), Fail> {
     assert_eq!(rt; settings.schedule, Some(7));
     are_wrong(&rt, rt.alloc(), "--mode check")?;
     are_wrong(&rt, rt.alloc(), "a.c --mode check --seed 1")?;
-    are_wrong(&rt, rt.alloc(), "a.c --mode race")?;
+    Ok(())
+}
+
+#[test]
+fn mode_race(rt: HostRuntime) -> Result<(), Fail> {
+    let settings = wanted(rt.alloc(), "a.c --mode race --workers 2")?.ok_or("wrong words")?;
+    assert!(rt; settings.mode == Mode::Race);
+    assert_eq!(rt; settings.workers, 2);
+    are_wrong(&rt, rt.alloc(), "--mode race")?;
+    are_wrong(&rt, rt.alloc(), "a.c --mode race --seed 1")?;
+    are_wrong(&rt, rt.alloc(), "a.c --mode race --size 3")?;
     Ok(())
 }
 

@@ -1,3 +1,4 @@
+use Rattle.std.proofs.Common.{refl}
 use Rattle.source_state.specs.Views.{wait_of}
 use Rattle.block_meaning.proofs.Ends.{last_returned, caller_returned}
 use Rattle.block_meaning.proofs.perform.go_back.Goals as goal
@@ -8,5 +9,5 @@ returns-in_ok-_done-in-None-clause-comes c =
 
 pub returns-in-Some-clause-comes : goal.returns-in-Some-clause-comes
 returns-in-Some-clause-comes c =
-    caller_returned c.args.program.now c.args.own.now.function c.args.thread c.args.own.now c.args.value c.args.world.now (record { function = c.in-Some.field-0.function; locals = c.in-Some.field-0.locals.now; wait = wait_of c.in-Some.field-0.wait }) _ _
-    c.in-Some.ensures c.after_call-at.ensures
+    caller_returned c.args.program.now c.args.own.now.function c.args.thread c.args.own.now c.args.value c.args.world.now (record { function = c.in-Some.field-0.function; locals = c.in-Some.field-0.locals.now; wait = wait_of c.in-Some.field-0.wait }) _ _ _
+    c.in-Some.ensures c.after_call-at.ensures refl

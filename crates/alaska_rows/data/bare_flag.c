@@ -1,0 +1,4 @@
+int x;int flag;
+int f(void *v){x=1;flag=1;return 0;}
+int g(void *v){while(!flag);printf("%d\n",x);return 0;}
+int main(void){thrd_t s;thrd_t t;thrd_create(&s,f,NULL);thrd_create(&t,g,NULL);thrd_join(s,NULL);thrd_join(t,NULL);return 0;}

@@ -1,0 +1,63 @@
+//! Touches in order, of which one needs no memory.
+
+ghost use Rattle.std.specs.Prelude.{◌≡◌, ◌++◌, ◌∷◌, [], IfOk, OnOk};
+ghost use Rattle.block_meaning.specs.Threads.{touches_in};
+
+use ak_words::NoMemory;
+use race_rules::Touch;
+use std::alloc::Global;
+
+/// What a turn touched, in order: most turns touch once.
+#[derive(Drop)]
+pub enum Touches {
+    /// Nothing.
+    None,
+    /// Once.
+    One([Touch; 1]),
+    /// More often.
+    More(Vec<Touch>),
+}
+
+impl Touches {
+    /// One touch more.
+    pub fn push(&mut self, alloc: Global, touch: Touch) -> Result<(), NoMemory>
+        ensures { OnOk result (touches_in self.new ≡ touches_in self.old ++ touch ∷ []) }
+    {
+        match self {
+            Touches::None => {
+                *self = Touches::One([touch]);
+                Ok(())
+            }
+            Touches::One(all) => {
+                let more = with(alloc, all, touch)?;
+                *self = Touches::More(more);
+                Ok(())
+            }
+            Touches::More(all) => {
+                all.push(touch)?;
+                Ok(())
+            }
+        }
+    }
+
+    /// The touches.
+    pub fn all(&self) -> &[Touch]
+        ensures { result.now ≡ touches_in self.now }
+    {
+        match self {
+            Touches::None => &[],
+            Touches::One(all) => all,
+            Touches::More(all) => all,
+        }
+    }
+}
+
+// Touches, and one more.
+fn with(alloc: Global, before: &[Touch], touch: Touch) -> Result<Vec<Touch>, NoMemory>
+    ensures { IfOk result (λ all. all.items ≡ before.now ++ touch ∷ []) }
+{
+    let mut all = Vec::with_capacity(alloc, 4)?;
+    all.extend_from_slice(before)?;
+    all.push(touch)?;
+    Ok(all)
+}
