@@ -46,6 +46,9 @@ pub fn show_walk(rt: &HostRuntime, text: &[u8]) -> io::Result<()>
     let start = Instant::now(rt)?;
     let turns = all_walked(rt.alloc(), &mut run);
     let micros = start.elapsed(rt)?.as_micros();
-    println!(rt; "{turns} turns walked, main ended: {}", run.ended(0) == Some(0))?;
+    println!(rt;
+        "{turns} turns walked, main ended: {}",
+        run.ended(0) == Some(0)
+    )?;
     eprintln!(rt; "{turns} {micros}")
 }
