@@ -1,7 +1,8 @@
 #!/usr/bin/env bash
 # How fast the interpreter of the source runs, by thread 0 alone: a loop of 1,000,000 rounds, with a load and a store each (at most 3 seconds); and
 # the time of a turn where the program has many functions or a long row of statements, where many calls wait, and where many blocks were made. Then a
-# loop over a global alone and in a check, where a turn is to last at most twice as long, and a check of 16,000,000 turns, in at most 300 MB.
+# loop over a global alone, with its turns walked for races, where a turn is to last at most three times as long, and in a check, where it is to last at
+# most twice as long, and a check of 16,000,000 turns, in at most 300 MB.
 # Use: bench/source_run.sh      prints turns, seconds and nanoseconds a turn. The seconds are those of the run alone, without the reading.
 # It measures crates/bench/out/bench as `rt ci` left it in this checkout; where there is none, it proves and builds it first.
 # Each run has a native stack of 1 MiB.
@@ -15,6 +16,12 @@ ulimit -s 1024
 measure() { # name, with the text in $work/text.c
   (cd "$work" && "$program" run text.c >out 2>micros) || { echo "$1: it didn't run" >&2; exit 1; }
   grep -q '^main ended: true' "$work/out" || { echo "$1: it didn't end as it should" >&2; cat "$work/out" >&2; exit 1; }
+  tail -n 1 "$work/micros" | awk -v name="$1" '{ printf "%-22s %9d %9.3f %9.0f\n", name, $1, $2 / 1e6, $2 * 1e3 / $1 }'
+}
+
+walk() { # name, with the text in $work/text.c
+  (cd "$work" && "$program" races text.c >out 2>micros) || { echo "$1: it didn't run" >&2; exit 1; }
+  grep -q 'main ended: true$' "$work/out" || { echo "$1: it didn't end as it should" >&2; cat "$work/out" >&2; exit 1; }
   tail -n 1 "$work/micros" | awk -v name="$1" '{ printf "%-22s %9d %9.3f %9.0f\n", name, $1, $2 / 1e6, $2 * 1e3 / $1 }'
 }
 
@@ -51,6 +58,7 @@ done
 count() { echo "int g;int main(void){for(int i=0;i<$1;i++)g=g+1;return 0;}"; }
 count 1000000 >"$work/text.c"
 measure "3000000 turns alone"
+walk "the same walked"
 check "the same in a check" unlimited
 count 6000000 >"$work/text.c"
 check "16000000 turns" 300000

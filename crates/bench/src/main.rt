@@ -1,11 +1,11 @@
 //! Measures parts of this project: `bench compile FILE` reads a C text, lowers it and makes it the machine's code; `bench run FILE` runs its thread 0
-//! by the interpreter of the source; `bench check FILE` checks it in a seeded order; `bench table IDS` takes and gives ids; `bench heaps OBJECTS` places
+//! by the interpreter of the source, and `bench races FILE` walks its turns for races as well; `bench check FILE` checks it in a seeded order; `bench table IDS` takes and gives ids; `bench heaps OBJECTS` places
 //! and frees objects in sub-heaps; `bench evacuation OBJECTS` moves objects out of thin sub-heaps; `bench arena OBJECTS` places objects and slides them;
 //! `bench filled OBJECTS` takes objects of 1 MiB that are copied, and such that are cleared; `bench turns TURNS` takes turns under the lock. Without
 //! words each is done once, over what is small.
 //! Promises nothing upward: it is a program. What it prints on standard output is the same at each run of one text or number, and the times go to
 //! standard error.
-//! Stands on alaska_run's `read`, ir_lower, compile_passes, block_meaning and rule_check, on ak_io and run_edges for the file, on handle_table,
+//! Stands on alaska_run's `read`, ir_lower, compile_passes, block_meaning, race_walk and rule_check, on ak_io and run_edges for the file, on handle_table,
 //! sub_heaps, move_plan, evacuate and defrag_move, with handle_words for words, and on turn_lock and ak_trace.
 #![tactic(auto)]
 
@@ -32,6 +32,8 @@ fn run_small(rt: &HostRuntime) -> io::Result<()> {
     texts::compile(rt, None)?;
     println!(rt; "# run")?;
     texts::run(rt, None)?;
+    println!(rt; "# races")?;
+    texts::races(rt, None)?;
     println!(rt; "# check")?;
     texts::check(rt, None)?;
     println!(rt; "# table")?;
@@ -60,6 +62,7 @@ fn main(rt: HostRuntime) -> io::Result<()> {
     match part.as_str() {
         "compile" => texts::compile(&rt, word),
         "run" => texts::run(&rt, word),
+        "races" => texts::races(&rt, word),
         "check" => texts::check(&rt, word),
         "table" => table::run(&rt, number),
         "heaps" => heaps::run(&rt, number),

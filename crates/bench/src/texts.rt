@@ -1,12 +1,14 @@
-//! Measures what is done with a C text: it is read, lowered and made the machine's code, or its thread 0 is run by the interpreter of the source, or it
-//! is checked.
+//! Measures what is done with a C text: it is read, lowered and made the machine's code, or its thread 0 is run by the interpreter of the source, and
+//! its turns are walked for races, or it is checked.
 
 mod checking;
 mod compiling;
+mod races;
 mod running;
 
 use crate::texts::checking::show_check;
 use crate::texts::compiling::show_compiled;
+use crate::texts::races::show_walk;
 use crate::texts::running::show_run;
 use ak_io::FileShelf;
 use ak_words::NoMemory;
@@ -62,4 +64,14 @@ pub fn check(rt: &HostRuntime, name: Option<&str>) -> io::Result<()> {
     let text = load(rt, name)?;
     let text = &text[..text.len().min(MOST_BYTES)];
     show_check(rt, text)
+}
+
+/// Runs thread 0 of the text of a file, or of a small one where none is named, and walks its turns for races.
+pub fn races(rt: &HostRuntime, name: Option<&str>) -> io::Result<()> {
+    let Some(name) = name else {
+        return show_walk(rt, ROUNDS);
+    };
+    let text = load(rt, name)?;
+    let text = &text[..text.len().min(MOST_BYTES)];
+    show_walk(rt, text)
 }

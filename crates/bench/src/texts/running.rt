@@ -9,8 +9,8 @@ use std::alloc::Global;
 use std::io;
 use std::time::Instant;
 
-// A run of this text that is about to begin.
-fn run_of(alloc: Global, text: &[u8]) -> Result<SourceRun, CompileFault>
+/// A run of this text that is about to begin.
+pub fn run_of(alloc: Global, text: &[u8]) -> Result<SourceRun, CompileFault>
     requires { length text.now ≤ 1048576 }
 {
     let Reading { tokens: _, typed } = read(alloc, text)?;
@@ -20,8 +20,8 @@ fn run_of(alloc: Global, text: &[u8]) -> Result<SourceRun, CompileFault>
     }
 }
 
-// A turn of thread 0 under the answer that it takes; nothing where it doesn't run, or memory is wanting.
-fn step(run: &mut SourceRun) -> Option<Turned> {
+/// A turn of thread 0 under the answer that it takes; nothing where it doesn't run, or memory is wanting.
+pub fn step(run: &mut SourceRun) -> Option<Turned> {
     if !run.runs(0) {
         return None;
     }
