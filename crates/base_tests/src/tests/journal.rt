@@ -1,5 +1,5 @@
 //! A journal up to its limit, and the turns that it tells.
-ghost use Rattle.std.specs.Prelude.{◌≡◌, OnOk};
+ghost use Rattle.std.specs.Prelude.{◌≡◌, IfOk};
 ghost use Rattle.ak_trace.specs.Order.{order};
 
 use ak_trace::{Answer, Entry, Journal, how, kind};
@@ -8,7 +8,7 @@ use std::test::Fail;
 
 /// All turns that a journal tells, in a list.
 fn turns_of(alloc: Global, journal: &Journal) -> Result<Vec<(u32, Answer)>, AllocError>
-    ensures { OnOk result (λ turns. turns.items ≡ order journal.now.entries) }
+    ensures { IfOk result (λ turns. turns.items ≡ order journal.now.entries) }
 {
     journal.walk().collect(alloc)
 }
