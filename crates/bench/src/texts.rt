@@ -3,13 +3,13 @@
 
 mod checking;
 mod compiling;
-mod races;
 mod running;
+mod walking;
 
 use crate::texts::checking::show_check;
 use crate::texts::compiling::show_compiled;
-use crate::texts::races::show_walk;
 use crate::texts::running::show_run;
+use crate::texts::walking::show_walk;
 use ak_io::FileShelf;
 use ak_words::NoMemory;
 use run_edges::{MOST_BYTES, TextRead, read_text};
