@@ -12,8 +12,8 @@ race_check-requires-2 c =
     let F : Typed → Type 0 = λ t. (turns : ℕ) → run t (journal_picks c.args.journal.now.entries) ≡ no_run turns → ⊥ in
     subst F (sym c.requires.same) c.requires.has_run
 
-pub returns-in_ok-second : goal.returns-in_ok-second
-returns-in_ok-second c =
+pub returns : goal.returns
+returns c =
     let order = journal_picks c.args.journal.now.entries in
     let F : Typed → Type 0 = λ t. IsRaceEnd t order c.in_ok-second.second in
     c.one_end_alone.ensures (typed_view c.args.one) order c.in_ok-first.first c.in_ok-second.second c.in_ok-first.ensures (subst F c.requires.same c.in_ok-second.ensures)
