@@ -1,5 +1,5 @@
 -- What the call comes to, from what `alaska` promises of it.
-use Rattle.std.proofs.Common.{◌≡◌, refl, sym, ap, subst, ◌∙◌, ℕ, ◌<◌, List, [], ◌++◌, length, Option, Some, None, inl, inr, arith}
+use Rattle.std.proofs.Common.{◌≡◌, refl, sym, ap, subst, ◌∙◌, ℕ, ◌<◌, List, [], ◌++◌, length, Option, Some, None, false, inl, inr, arith}
 use Rattle.std.specs.Option.{option_map}
 use Rattle.ak_trace.specs.declared.entry.Entry.{Entry}
 use Rattle.clap.proofs.OnLiterals.{clap_on_literals}
