@@ -14,11 +14,12 @@ use Rattle.race_rules.specs.declared.touch.Touch.{Touch}
 use Rattle.race_rules.specs.declared.touch.TouchKind.{TouchKind}
 use Rattle.race_rules.specs.declared.touch.TouchKind.TheVariants.{Read, Write, AtomicRead, AtomicWrite, Lock, Unlock, Start, Join}
 
--- an object is read, and written, that is atomic or not
+-- an object that is read, which is atomic or not
 abbrev pub read_kind : (atomic : Bool) → TouchKind
 read_kind true = AtomicRead
 read_kind false = Read
 
+-- an object that is written, which is atomic or not
 abbrev pub write_kind : (atomic : Bool) → TouchKind
 write_kind true = AtomicWrite
 write_kind false = Write

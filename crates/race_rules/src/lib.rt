@@ -1,6 +1,6 @@
 //! What turns of threads touch, which turn is before which, and what a race is; and how clocks tell it.
 //! Promises upward: the definitions of Before and of Race, that a turn's clock knows just what is before it, and that each race shows at its second turn.
-//! Stands on std alone. No mode uses it yet.
+//! Stands on std alone.
 #![tactic(auto)]
 
 pub mod laws;

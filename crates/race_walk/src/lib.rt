@@ -1,6 +1,6 @@
 //! A walk over the turns of threads that finds their first race.
 //! Promises upward: exactly which turn is the first that races with an earlier one, the least turn that it races with, and the touches of both that are shown.
-//! Stands on race_rules, and on `smallvec` for what is kept of a cell. No mode uses it yet.
+//! Stands on race_rules, and on `smallvec` for what is kept of a cell.
 #![tactic(auto)]
 
 mod block;
