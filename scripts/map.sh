@@ -19,7 +19,7 @@ import collections, os, re, sys
 
 MAP, CLAIM = "docs/ARCHITECTURE.md", "docs/HEADLINE.md"
 MAP_HEAD = ["| Crate | Holds | Stands on |", "|---|---|---|"]
-READ_HEAD = ["| Step | In | Files | Lines |", "|---|---|---|---|"]
+READ_HEAD = ["| Step | Files | Lines |", "|---|---|---|"]
 ROOTS = ["crates/alaska_run/specs/Headline.antt", "crates/alaska_run/specs/Answers.antt"]
 
 # The steps in which the definitions are read: what a step is about, and the crates whose definitions it takes. Behind the first, which says what
@@ -138,9 +138,9 @@ def by_steps():
 
 def read_rows():
     steps, _ = by_steps()
-    rows = [f"| {about} | {', '.join(crates.split())} | {len(step)} | {sum(map(length, step)):,} |" for (about, crates), step in zip(STEPS, steps)]
+    rows = [f"| {about} | {len(step)} | {sum(map(length, step)):,} |" for (about, _), step in zip(STEPS, steps)]
     every = [path for step in steps for path in step]
-    return READ_HEAD + rows + [f"| all | | {len(every)} | {sum(map(length, every)):,} |"]
+    return READ_HEAD + rows + [f"| all | {len(every)} | {sum(map(length, every)):,} |"]
 
 def print_read():
     steps, types = by_steps()
