@@ -1,11 +1,12 @@
 #!/usr/bin/env bash
-# Makes the tables of docs/ that say again what the sources say: of the crates, in docs/ARCHITECTURE.md, and of the definitions, in docs/HEADLINE.md.
-# Use: scripts/map.sh           puts both tables into these files; the rows of the crates stay in the order that they have there, new ones come last.
-#   scripts/map.sh --check      writes nothing; ends with 0 where both tables are what the sources say, and else names the lines that differ.
+# Makes what docs/ has from the sources: the list of the crates, in docs/ARCHITECTURE.md, and the table of the definitions, in docs/HEADLINE.md.
+# Use: scripts/map.sh           puts both into these files; the crates stay in the order that they have there, below its titles, new ones come last.
+#   scripts/map.sh --check      writes nothing; ends with 0 where both are what the sources say, and else names the lines that differ.
 #   scripts/map.sh --read       prints each file of definitions that `Headline` and `Answers` of alaska_run lead to, with its lines, in the order in
 #     which they are best read: by the steps of the table, and in a crate as they are come to.
 # A crate is described in the `//!` lines at the head of its src/lib.rt or src/main.rt: what it holds, then `Promises upward: ..` or
-# `Promises nothing upward: ..`, then `Stands on ..`; the table has the first. Of the crates that crates.txt names for it, the table has those that no other of them stands on.
+# `Promises nothing upward: ..`, then `Stands on ..`; the list has the first of these, up to its first `.`, `:` or `;`, or up to a
+# comma before, where that is longer than 80 characters.
 # Files of definitions are come to by the lines `use Rattle.CRATE.specs...` of others, those of this repository alone; of a type that
 # stands in src/ (a use of `specs.declared`) --read names the file.
 set -eu
@@ -18,7 +19,7 @@ exec python3 /dev/fd/3 "${1:---write}" 3<<'END'
 import collections, os, re, sys
 
 MAP, CLAIM = "docs/ARCHITECTURE.md", "docs/HEADLINE.md"
-MAP_HEAD = ["| Crate | Holds | Stands on |", "|---|---|---|"]
+MAP_HEAD, MAP_END = ["```crates"], "```"
 READ_HEAD = ["| Step | Files | Lines |", "|---|---|---|"]
 ROOTS = ["crates/alaska_run/specs/Headline.antt", "crates/alaska_run/specs/Answers.antt"]
 
@@ -47,40 +48,27 @@ def lines_of(path):
 
 # ---- the crates
 
-# Each crate of crates.txt, with those that its line names.
+# The crates of crates.txt.
 def crates():
-    below = {}
-    for line in lines_of("crates.txt"):
-        line = line.split("#")[0]
-        if ":" in line:
-            head, parts = line.split(":")
-            below[head.split()[0]] = parts.split()
-    return below
+    lines = [line.split("#")[0] for line in lines_of("crates.txt")]
+    return [line.split(":")[0].split()[0] for line in lines if ":" in line]
 
-def all_below(crate, below, known):
-    if crate not in known:
-        known[crate] = set(below.get(crate, ()))
-        for part in below.get(crate, ()):
-            known[crate] |= all_below(part, below, known)
-    return known[crate]
-
-# What the head of a crate says that it holds. Where the head lacks a part that is a fault.
+# The first words of what the head of a crate says that it holds. Where the head lacks a part that is a fault.
 def head_of(crate):
     path = next(path for path in (f"crates/{crate}/src/lib.rt", f"crates/{crate}/src/main.rt") if os.path.exists(path))
     head = " ".join(line[3:].strip() for line in lines_of(path) if line.startswith("//!"))
     parts = re.fullmatch(r"(.+?) Promises (?:nothing )?upward: .+? Stands on .+", head)
     if not parts:
         sys.exit(f"{path}: its head isn't what it holds, `Promises upward: ..` and `Stands on ..`")
-    return parts[1]
+    first = re.split(r"[.:;](?:\s|$)", parts[1])[0]
+    return first if len(first) <= 80 else first[:80].rpartition(",")[0] or first
 
-# The table of the crates, in the order that is given, and behind these in that of crates.txt.
-def crate_rows(order):
-    below, known = crates(), {}
-    rows = []
-    for crate in [crate for crate in order if crate in below] + [crate for crate in below if crate not in order]:
-        parts = [part for part in below[crate] if not any(part in all_below(other, below, known) for other in below[crate])]
-        rows.append("| " + " | ".join(cell.replace("|", "\\|") for cell in (crate, head_of(crate), ", ".join(parts) or "std")) + " |")
-    return MAP_HEAD + rows
+# The list of the crates, in the order of these lines, with their titles, and behind them in that of crates.txt.
+def crate_rows(lines):
+    every = crates()
+    stand = [line if line.startswith("#") else line.split()[0] for line in lines if line]
+    order = [name for name in stand if name.startswith("#") or name in every] + [crate for crate in every if crate not in stand]
+    return MAP_HEAD + [name if name.startswith("#") else f"{name:18} {head_of(name)}" for name in order]
 
 # ---- the definitions
 
@@ -154,21 +142,19 @@ def print_read():
 
 # ---- the files of docs/
 
-# The lines of a document, and where its table stands that has this head.
-def place(path, head):
+# The lines of a document, and where the lines stand from this head on to the first behind it of which that holds.
+def place(path, head, ends):
     lines = lines_of(path)
     if head[0] not in lines:
-        sys.exit(f"{path}: no table with the head {head[0]}")
-    start = end = lines.index(head[0])
-    while lines[end].startswith("|"):
-        end += 1
-    return lines, start, end
+        sys.exit(f"{path}: no line {head[0]}")
+    start = lines.index(head[0])
+    return lines, start, next(at for at in range(start + 1, len(lines)) if ends(lines[at]))
 
-# The documents, each with the table that stands there and the one that should.
+# The documents, each with the lines that stand there and those that should.
 def tables():
-    lines, start, end = place(MAP, MAP_HEAD)
-    yield MAP, lines, start, end, crate_rows([row.split("|")[1].strip() for row in lines[start + 2:end]])
-    yield CLAIM, *place(CLAIM, READ_HEAD), read_rows()
+    lines, start, end = place(MAP, MAP_HEAD, lambda line: line == MAP_END)
+    yield MAP, lines, start, end, crate_rows(lines[start + 1:end])
+    yield CLAIM, *place(CLAIM, READ_HEAD, lambda line: not line.startswith("|")), read_rows()
 
 def check():
     wrong = 0
