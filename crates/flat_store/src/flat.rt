@@ -132,13 +132,15 @@ fn index_of(bytes: &[u8], at: u64, n: u64) -> Result<usize, OutsideFlat>
     ensures within { IfOk result (λ i. i + n ≤ length bytes.now) }
     ensures outside { IfErr result (λ e. IsFirstOutside bytes.now at n e.0) }
 {
-    let end = FIRST_ADDRESS + bytes.len() as u64;
-    if at < FIRST_ADDRESS || end <= at {
+    // From below the first address this wraps to more than there are bytes.
+    let index = at.wrapping_sub(FIRST_ADDRESS);
+    let len = bytes.len() as u64;
+    if len <= index {
         Err(OutsideFlat(at))
-    } else if end - at < n {
-        Err(OutsideFlat(end))
+    } else if len - index < n {
+        Err(OutsideFlat(FIRST_ADDRESS + len))
     } else {
-        Ok((at - FIRST_ADDRESS) as usize)
+        Ok(index as usize)
     }
 }
 
