@@ -1,4 +1,4 @@
-ghost use Rattle.std.specs.Prelude.{◌≡◌, Some, ◌≢◌, ℕ, ◌+◌, ◌-◌, ◌*◌, ◌^◌, ◌%◌, ◌<◌, ◌≤◌, ◌↔◌, length, slice_index, replicate, IsTrue, IsOk, OnOk, OnErr, IfOk, IfErr, IfSome, IfNone};
+ghost use Rattle.std.specs.Prelude.{◌≡◌, Some, ◌≢◌, ℕ, ◌+◌, ◌-◌, ◌*◌, ◌^◌, ◌%◌, ◌<◌, ◌≤◌, ◌↔◌, ◌++◌, length, take, drop, slice_index, replicate, IsTrue, IsOk, OnOk, OnErr, IfOk, IfErr, IfSome, IfNone};
 ghost use Rattle.flat_store.specs.Flat.{first_address, HasBytes, IsFirstOutside, first_outside, first_outside_of_both, bytes_from, with_bytes, ChangesOnly, IsTextLen, HasNoZero};
 ghost use Rattle.flat_store.specs.Word.{is_word_size, number_of, low_bytes};
 
@@ -48,7 +48,7 @@ impl Flat {
         ensures outside { IfErr result (λ e. first_outside self.now at n ≡ Some e.0) }
     {
         let start = index_of(&self.bytes, at, u64::from(n))?;
-        Ok(number_from(&self.bytes[start..start + usize::from(n)]))
+        Ok(number_at(&self.bytes, start, n))
     }
 
     /// Writes the `n` low bytes of `v` from `at` on, the least first. The error names the first of
@@ -63,9 +63,7 @@ impl Flat {
         ensures unchanged { OnErr result (self.new ≡ self.old) }
     {
         let start = index_of(&self.bytes, at, u64::from(n))?;
-        let width = usize::from(n);
-        let word = v.to_le_bytes();
-        self.bytes[start..start + width].copy_from_slice(&word[..width]);
+        put_number(&mut self.bytes, start, n, v);
         Ok(())
     }
 
@@ -134,13 +132,15 @@ fn index_of(bytes: &[u8], at: u64, n: u64) -> Result<usize, OutsideFlat>
     ensures within { IfOk result (λ i. i + n ≤ length bytes.now) }
     ensures outside { IfErr result (λ e. IsFirstOutside bytes.now at n e.0) }
 {
-    let end = FIRST_ADDRESS + bytes.len() as u64;
-    if at < FIRST_ADDRESS || end <= at {
+    // From below the first address this wraps to more than there are bytes.
+    let index = at.wrapping_sub(FIRST_ADDRESS);
+    let len = bytes.len() as u64;
+    if len <= index {
         Err(OutsideFlat(at))
-    } else if end - at < n {
-        Err(OutsideFlat(end))
+    } else if len - index < n {
+        Err(OutsideFlat(FIRST_ADDRESS + len))
     } else {
-        Ok((at - FIRST_ADDRESS) as usize)
+        Ok(index as usize)
     }
 }
 
@@ -153,13 +153,47 @@ fn first_zero(bytes: &[u8]) -> Option<usize>
     bytes.iter().position(|byte| *byte == 0)
 }
 
-// The number that the bytes stand for, the least first.
-fn number_from(bytes: &[u8]) -> u64
-    requires { length bytes.now ≤ 8 }
-    ensures value { result ≡ number_of bytes.now }
-    ensures fits { result < 256 ^ length bytes.now }
+// The number that the `n` bytes from index `start` on stand for, the least first.
+#[inline(always)]
+fn number_at(bytes: &[u8], start: usize, n: u8) -> u64
+    requires size { IsTrue (is_word_size n) }
+    requires within { start + n ≤ length bytes.now }
+    ensures value { result ≡ number_of (take n (drop start bytes.now)) }
+    ensures fits { result < 256 ^ n }
 {
-    let mut word = [0; 8];
-    word[..bytes.len()].copy_from_slice(bytes);
-    u64::from_le_bytes(word)
+    // Each size has a case of its own, so that it is one read.
+    match n {
+        1 => u64::from(bytes[start]),
+        2 => u64::from(u16::from_le_bytes(bytes_at(bytes, start))),
+        4 => u64::from(u32::from_le_bytes(bytes_at(bytes, start))),
+        _ => u64::from_le_bytes(bytes_at(bytes, start)),
+    }
+}
+
+// The `N` bytes from index `start` on.
+#[inline(always)]
+fn bytes_at<const N: usize>(bytes: &[u8], start: usize) -> [u8; N]
+    requires { start + N ≤ length bytes.now }
+    ensures { result ≡ take N (drop start bytes.now) }
+{
+    let mut word = [0; N];
+    word.copy_from_slice(&bytes[start..start + N]);
+    word
+}
+
+// Writes the `n` low bytes of `v` from index `start` on, the least first.
+#[inline(always)]
+fn put_number(bytes: &mut [u8], start: usize, n: u8, v: u64)
+    requires size { IsTrue (is_word_size n) }
+    requires within { start + n ≤ length bytes.old }
+    ensures { bytes.new ≡ take start bytes.old ++ low_bytes n v ++ drop (start + n) bytes.old }
+{
+    let word = v.to_le_bytes();
+    // Each size has a case of its own, so that it is one write.
+    match n {
+        1 => bytes[start] = word[0],
+        2 => bytes[start..start + 2].copy_from_slice(&word[..2]),
+        4 => bytes[start..start + 4].copy_from_slice(&word[..4]),
+        _ => bytes[start..start + 8].copy_from_slice(&word),
+    }
 }
