@@ -1,5 +1,5 @@
 -- What the code's threads are: those of the meaning of the source.
-use Rattle.std.specs.Prelude.{List, [], map, reverse, Option}
+use Rattle.std.specs.Prelude.{List, [], ◌∷◌, map, reverse, Option}
 use Rattle.std.specs.Option.{option_map}
 use Rattle.std.specs.Global.{Vec}
 use Rattle.c_meaning.specs.Control as control
@@ -30,7 +30,8 @@ callers_of v = map caller_of (reverse v.items)
 -- what was touched, in order
 abbrev pub touches_in : Touches → List Touch
 touches_in lists.None = []
-touches_in (lists.One all) = all
+touches_in (lists.One only) = only ∷ []
+touches_in (lists.Two all) = all
 touches_in (lists.More all) = all.items
 
 -- what a thread has of its own

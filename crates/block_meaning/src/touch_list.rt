@@ -1,4 +1,4 @@
-//! Touches in order, of which one needs no memory.
+//! Touches in order, of which two need no memory.
 
 ghost use Rattle.std.specs.Prelude.{◌≡◌, ◌++◌, ◌∷◌, [], IfOk, OnOk};
 ghost use Rattle.block_meaning.specs.Threads.{touches_in};
@@ -6,14 +6,17 @@ ghost use Rattle.block_meaning.specs.Threads.{touches_in};
 use ak_words::NoMemory;
 use race_rules::Touch;
 use std::alloc::Global;
+use std::array::from_ref;
 
-/// What a turn touched, in order: most turns touch once.
+/// What a turn touched, in order: most turns touch once or twice.
 #[derive(Drop)]
 pub enum Touches {
     /// Nothing.
     None,
     /// Once.
-    One([Touch; 1]),
+    One(Touch),
+    /// Twice.
+    Two([Touch; 2]),
     /// More often.
     More(Vec<Touch>),
 }
@@ -25,10 +28,14 @@ impl Touches {
     {
         match self {
             Touches::None => {
-                *self = Touches::One([touch]);
+                *self = Touches::One(touch);
                 Ok(())
             }
-            Touches::One(all) => {
+            Touches::One(first) => {
+                *self = Touches::Two([*first, touch]);
+                Ok(())
+            }
+            Touches::Two(all) => {
                 let more = with(alloc, all, touch)?;
                 *self = Touches::More(more);
                 Ok(())
@@ -46,7 +53,8 @@ impl Touches {
     {
         match self {
             Touches::None => &[],
-            Touches::One(all) => all,
+            Touches::One(only) => from_ref(only),
+            Touches::Two(all) => all,
             Touches::More(all) => all,
         }
     }
