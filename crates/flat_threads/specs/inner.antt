@@ -3,4 +3,5 @@ pub mod Arrays
 pub mod Flat
 pub mod Steps
 pub mod Parts
+pub mod Places
 pub mod Runs

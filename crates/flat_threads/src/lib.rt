@@ -13,6 +13,7 @@ mod flat;
 mod flattening;
 mod laws;
 mod pinning;
+mod placed;
 mod program;
 mod running;
 mod targets;
@@ -20,8 +21,8 @@ mod wait;
 
 pub use alone::local;
 pub use context::Context;
-pub use flattening::taken;
 pub use laws::{contexts_go_on, local_ignores_settings};
+pub use placed::taken;
 pub use program::Program;
 pub use targets::Target;
 pub use wait::Wait;
