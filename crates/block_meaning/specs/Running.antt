@@ -3,6 +3,7 @@ use Rattle.std.specs.Prelude.{◌≡◌, ℕ, ◌==◌, Bool, if◌then◌else�
 use Rattle.ak_words.specs.IntType.{int}
 use Rattle.ak_words.specs.Wrapped.{wrapped_value}
 use Rattle.block_store.specs.Actions as actions
+use Rattle.block_store.specs.Blocks.{Blocks}
 use Rattle.block_store.specs.Runs as runs
 use Rattle.c_tree.specs.Typed as tree
 use Rattle.c_meaning.specs.Control.{Control}
@@ -25,6 +26,10 @@ pub record Running : Type 0 where
   pub asked : Option ℕ
   pub touched : List Touch
   pub out_of_memory : Bool
+
+-- the block of this name was made and has ended
+abbrev pub HasEnded : Blocks → (name : ℕ) → Type 0
+HasEnded blocks name = slice_get blocks name ≡ Some None
 
 -- the number that a thread's first function has returned, as an int
 abbrev pub returned_at : actions.Stage → Option ℤ

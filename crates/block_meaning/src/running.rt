@@ -1,6 +1,6 @@
 //! A run of a program, turn by turn.
 
-ghost use Rattle.std.specs.Prelude.{◌≡◌, ℕ, [], true, false, Some, None, IfOk, OnOk, IsSome, length, map};
+ghost use Rattle.std.specs.Prelude.{◌≡◌, ◌↔◌, ℕ, [], true, false, Some, None, IfOk, OnOk, IsSome, length, map};
 ghost use Rattle.std.specs.Option.{is_some};
 ghost use Rattle.std.specs.Result.{is_err};
 ghost use Rattle.block_store.specs.Runs.{first_state, picked};
@@ -13,7 +13,7 @@ ghost use Rattle.source_tree.specs.SharedViews.{program_of};
 ghost use Rattle.source_state.specs.Worlds.{reached_of};
 ghost use Rattle.block_meaning.specs.Asking.{wish, AreAskedOf};
 ghost use Rattle.block_meaning.specs.Counts.{HasFewDeclarations, MakesFew, ReachesFew};
-ghost use Rattle.block_meaning.specs.Running.{running_of, answered_if, left_by, ended_with, IsAsBefore};
+ghost use Rattle.block_meaning.specs.Running.{running_of, HasEnded, answered_if, left_by, ended_with, IsAsBefore};
 ghost use Rattle.block_meaning.specs.inner.Touches.{done_by};
 
 use crate::begin::begun;
@@ -138,6 +138,14 @@ impl SourceRun {
         ensures { result ≡ length (running_of self.now).state.world.blocks }
     {
         self.world.store.store().names()
+    }
+
+    /// Whether the block of this number was made and has ended.
+    pub fn has_ended(&self, block: u64) -> bool
+        ensures { (result ≡ true) ↔ HasEnded (running_of self.now).state.world.blocks block }
+    {
+        let store = self.world.store.store();
+        block < store.names() && store.live_size(block).is_none()
     }
 
     /// How many threads were made.

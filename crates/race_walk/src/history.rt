@@ -1,5 +1,6 @@
-ghost use Rattle.std.specs.Prelude.{◌≡◌, ◌↔◌, ℕ, ◌<◌, ◌≤◌, true, OnOk};
+ghost use Rattle.std.specs.Prelude.{◌≡◌, ◌↔◌, ℕ, ◌<◌, ◌≤◌, true, IfOk, OnOk};
 ghost use Rattle.std.specs.List.{list_any};
+ghost use Rattle.std.specs.HashMap.{keys};
 ghost use Rattle.race_rules.specs.Histories.{saw, saw_all, forgotten, Caught};
 ghost use Rattle.race_rules.specs.Turns.{Has};
 ghost use Rattle.race_walk.specs.Views.{told_by, clashes};
@@ -64,6 +65,13 @@ impl History {
         ensures { (b e : ℕ) → history_of self.new b e ≡ forgotten block (history_of self.old) b e }
     {
         self.blocks.remove(&block);
+    }
+
+    /// The blocks of which something is kept.
+    pub fn blocks(&self, alloc: Global) -> Result<Vec<u64>, AllocError>
+        ensures { IfOk result (λ all. all.items ≡ keys self.now.blocks) }
+    {
+        self.blocks.keys().copied().collect(alloc)
     }
 
     /// Notes the touches of a turn.

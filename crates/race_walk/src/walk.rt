@@ -1,4 +1,5 @@
 ghost use Rattle.std.specs.Prelude.{◌≡◌, ◌+◌, ◌<◌, ◌^◌, true, IfOk, List, slice_get, Some};
+ghost use Rattle.std.specs.HashMap.{hash_map_len, keys};
 ghost use Rattle.race_rules.specs.Turns.{Turn};
 ghost use Rattle.race_rules.specs.Histories.{StillTouched};
 ghost use Rattle.race_walk.specs.Views.{this_turn};
@@ -91,6 +92,20 @@ impl RaceWalk {
             touches,
             clock,
         })
+    }
+
+    /// How many blocks it remembers.
+    pub fn remembered(&self) -> usize
+        ensures { result ≡ hash_map_len self.now.history.blocks }
+    {
+        self.history.blocks.len()
+    }
+
+    /// The blocks that it remembers, each once.
+    pub fn blocks(&self, alloc: Global) -> Result<Vec<u64>, AllocError>
+        ensures { IfOk result (λ all. all.items ≡ keys self.now.history.blocks) }
+    {
+        self.history.blocks(alloc)
     }
 
     /// Forgets a block: the walk stays one of these turns where no later one reads or writes it.
