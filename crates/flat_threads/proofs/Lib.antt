@@ -12,6 +12,7 @@ mod Instrs
 mod Calcs
 mod Addresses
 mod FlatRuns
+mod Flats
 pub mod Spans
 pub mod Loaded
 pub mod Threads

@@ -15,7 +15,7 @@ ghost use Rattle.flat_threads.specs.inner.Steps.{told_before};
 use crate::call::Phase;
 use crate::calls::{Calls, FRAMES, REGISTERS, SLOTS, STACK};
 use crate::context::Context;
-use crate::flat::FlatFunc;
+use crate::flat::{Flat, FlatFunc};
 use crate::program::Program;
 use flat_meaning::Stop;
 use struct_ir::InstrKind;
@@ -42,13 +42,13 @@ pub(crate) fn stands_before(program: &Program, calls: &Calls) -> Before
     ensures small { calls.now.top.at.index + 1 < 2 ^ 32 }
     ensures program { IsProgram program.now }
 {
-    match calls.instr(program).kind {
-        InstrKind::Safe(_) => Before::Safe,
-        InstrKind::Look(_, _) | InstrKind::Step(_) => Before::Shared,
-        InstrKind::Enter(_) => Before::Calls,
-        InstrKind::Round(_) => Before::TurnOver,
-        InstrKind::Leave(_) => before_return(calls),
-        InstrKind::Set(_, _) | InstrKind::Unless(_, _) | InstrKind::Jump(_) => Before::Nothing,
+    match calls.flat(program) {
+        Flat::Safe => Before::Safe,
+        Flat::Stop => Before::Shared,
+        Flat::Enter => Before::Calls,
+        Flat::Round(_) => Before::TurnOver,
+        Flat::Leave => before_return(calls),
+        _ => Before::Nothing,
     }
 }
 
@@ -117,7 +117,7 @@ fn is_small(func: &FlatFunc) -> bool
 }
 
 // A thread has room for a call of the function above what it has.
-fn has_room(program: &Program, calls: &Calls, func: &FlatFunc) -> bool
+pub(crate) fn has_room(program: &Program, calls: &Calls, func: &FlatFunc) -> bool
     requires { IsThreadOf program.now calls.now }
     ensures { (function : ℕ) (f : LinearFunc) → slice_get program.now.funcs function ≡ Some f → IsFlatFunc (layout_of program.now) f func.now → result ≡ room_for (own_image program.now) calls.now function }
 {
