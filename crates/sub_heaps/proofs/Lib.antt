@@ -10,6 +10,8 @@ pub mod Kept
 pub mod Knowing
 pub mod Order
 pub mod Sides
+pub mod Shifting
 pub mod Standing
 pub mod Summing
 pub mod Taken
+pub mod Walked

@@ -4,3 +4,4 @@ pub mod Order
 pub mod Pools
 pub mod Summaries
 pub mod Trees
+pub mod Walks

@@ -11,6 +11,7 @@ mod placement;
 mod search;
 mod summary;
 mod tree;
+mod walk;
 
 pub use moves::Move;
 pub use objects::Object;

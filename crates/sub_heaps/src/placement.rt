@@ -2,12 +2,15 @@ ghost use Rattle.std.specs.Prelude.{◌≡◌, ℕ, ◌+◌, ◌%◌, ◌<◌, �
 ghost use Rattle.std.specs.List.{find, sum_by};
 ghost use Rattle.sub_heaps.specs.ByPlace.{object_at, with_object, without, shifted};
 ghost use Rattle.std.specs.Vec.{vec_len, vec_capacity};
+ghost use Rattle.sub_heaps.specs.inner.Walks.{walked};
 ghost use Rattle.sub_heaps.specs.SubHeaps.{IsShape, rounded, IsRounded, FitsAt, IsLowestFit, IsSound, IsAligned, extent_of};
 
 use crate::changes::{insert, remove};
+use crate::moves::Move;
 use crate::objects::Object;
 use crate::search::{first_inside, lowest_before, next_from, size_within};
 use crate::tree::{Node, Tree};
+use crate::walk::walk;
 use ak_words::NoMemory;
 use std::alloc::Global;
 use std::marker::Model;
@@ -109,8 +112,13 @@ impl Heaps {
         ensures still_aligned { to % 16 ≡ 0 → IsAligned self.old → IsAligned self.new }
         ensures sound { IsSound self.new }
     {
-        let object = self.take(from);
-        self.put(Object { at: to, ..object });
+        match self.next_object(to) {
+            Some(next) if next.at == from => {
+                let size = next.size;
+                self.make_in_order(&[Move { from, to, size }]);
+            }
+            _ => self.put_again(from, to),
+        }
     }
 
     /// The lowest object that starts at or after `from`.
@@ -172,6 +180,25 @@ impl Heaps {
         node.object = object;
         let tree = mem::replace(&mut self.tree, Tree::Empty);
         self.tree = Tree::Fork(insert(tree, node, self.size));
+    }
+
+    // Makes moves that keep the order, each next one at the object that it is of, in one walk.
+    fn make_in_order(&mut self, moves: &[Move])
+        requires { IsSound (record self.old { objects = walked moves.now self.old.objects }) }
+        ensures made { self.new ≡ record self.old { objects = walked moves.now self.old.objects } }
+        ensures sound { IsSound self.new }
+    {
+        walk(&mut self.tree, moves, self.size);
+    }
+
+    // Takes the object that starts at `from` out, and puts it in again at `to`.
+    fn put_again(&mut self, from: u32, to: u32)
+        requires { IsSomeAnd (object_at from self.old.objects) (λ o. FitsAt (record self.old { objects = without from self.old.objects }) o.size to) }
+        ensures moved { self.new ≡ record self.old { objects = shifted from to self.old.objects } }
+        ensures sound { IsSound self.new }
+    {
+        let object = self.take(from);
+        self.put(Object { at: to, ..object });
     }
 
     // Takes away the object that starts at `at`, and gives its node back.

@@ -124,8 +124,8 @@ pub fn fork(left: Tree, mut node: Box<Node>, right: Tree, size: u32) -> Box<Node
     node
 }
 
-// What is known of an object and those on its two sides.
-fn summary(left: &Tree, object: Object, right: &Tree, size: u32) -> Summary
+/// What is known of an object and those on its two sides.
+pub fn summary(left: &Tree, object: Object, right: &Tree, size: u32) -> Summary
     requires size { 0 < size }
     requires bound { size ≤ 268435456 }
     requires left { IsTree size left.now }

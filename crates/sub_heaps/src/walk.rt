@@ -1,0 +1,55 @@
+ghost use Rattle.std.specs.Prelude.{◌≡◌, ◌<◌, ◌↔◌, [], ◌∷◌, true};
+ghost use Rattle.sub_heaps.specs.inner.Order.{InOrder};
+ghost use Rattle.sub_heaps.specs.inner.Trees.{objects_of, height_of, IsTree, IsOrdered};
+ghost use Rattle.sub_heaps.specs.inner.Walks.{walked, left_over, StartsBelow};
+
+use crate::moves::Move;
+use crate::objects::Object;
+use crate::tree::{Tree, summary};
+
+/// Makes each next move at the object of the tree that it is of, where the objects stay in order, and gives
+/// the moves that are left.
+pub fn walk<'a>(tree: &mut Tree, moves: &'a [Move], size: u32) -> &'a [Move]
+    requires ordered { IsOrdered size tree.old }
+    requires in_order { InOrder 0 (walked moves.now (objects_of tree.old)) }
+    ensures left { result.now ≡ left_over moves.now (objects_of tree.old) }
+    ensures objects { objects_of tree.new ≡ walked moves.now (objects_of tree.old) }
+    ensures tree { IsTree size tree.new }
+    ensures height { height_of tree.new ≡ height_of tree.old }
+{
+    let Tree::Fork(node) = tree else {
+        return moves;
+    };
+    if !starts_below(moves, node.under.end) {
+        return moves;
+    }
+    let moves = walk(&mut node.left, moves, size);
+    let moves = step(&mut node.object, moves);
+    let moves = walk(&mut node.right, moves, size);
+    node.under = summary(&node.left, node.object, &node.right, size);
+    moves
+}
+
+// Whether the first move is of an object that starts below a place.
+fn starts_below(moves: &[Move], end: u32) -> bool
+    ensures { (result ≡ true) ↔ StartsBelow end moves.now }
+{
+    match moves.first() {
+        Some(next) => next.from < end,
+        None => false,
+    }
+}
+
+// Makes the first move, where it is of this object.
+fn step<'a>(object: &mut Object, moves: &'a [Move]) -> &'a [Move]
+    ensures left { result.now ≡ left_over moves.now (object.old ∷ []) }
+    ensures object { object.new ∷ [] ≡ walked moves.now (object.old ∷ []) }
+{
+    match moves.split_first() {
+        Some((next, later)) if next.from == object.at => {
+            object.at = next.to;
+            later
+        }
+        _ => moves,
+    }
+}
