@@ -10,6 +10,7 @@ ghost use Rattle.flat_threads.specs.Contexts.{IsProgram, IsStageIf, IsThreadOf, 
 ghost use Rattle.flat_meaning.specs.Words.{none_used};
 ghost use Rattle.flat_threads.specs.inner.Flat.{IsFlatFunc};
 ghost use Rattle.flat_threads.specs.inner.Parts.{fits_above};
+ghost use Rattle.flat_threads.specs.inner.Steps as steps;
 ghost use Rattle.flat_threads.specs.inner.Steps.{told_before};
 
 use crate::call::Phase;
@@ -35,8 +36,8 @@ pub(crate) enum Before {
     Nothing,
 }
 
-/// What a thread stands before.
-pub(crate) fn stands_before(program: &Program, calls: &Calls) -> Before
+// What a thread stands before.
+fn stands_before(program: &Program, calls: &Calls) -> Before
     requires { IsThreadOf program.now calls.now }
     ensures before { result ≡ told_before (stages.before (own_image program.now) calls.now) }
     ensures small { calls.now.top.at.index + 1 < 2 ^ 32 }
@@ -63,29 +64,27 @@ fn before_return(calls: &Calls) -> Before
     }
 }
 
-/// Why a thread stops that has ended so many turns, if it does.
-pub(crate) fn stop_at(program: &Program, ctx: &Context, most: u32, turns: u32) -> Option<Stop>
+/// Why a thread stops at once, if it does; one that is on its way finds that out at its next stop.
+pub(crate) fn first_stop(program: &Program, ctx: &Context, most: u32) -> Option<Stop>
     requires { IsStageIf program.now ctx.now.stage }
-    ensures { (stage : Stage Spot) → ctx.now.stage ≡ Some stage → result ≡ alone.stop_at (own_image program.now) most turns stage }
+    ensures { (stage : Stage Spot) → ctx.now.stage ≡ Some stage → result ≡ steps.first_stop program.now most stage }
 {
     match ctx.phase {
-        Phase::Away => None,
+        Phase::Away | Phase::Going => None,
         Phase::Starts(function, _) => {
             no_room_unless(is_small(&program.funcs[function as usize]))
         }
-        Phase::Going | Phase::Waiting | Phase::Landed => {
-            stop_before(program, &ctx.calls, most, turns)
-        }
+        Phase::Waiting | Phase::Landed => stop_before(program, &ctx.calls, most),
     }
 }
 
 // The same, of a thread that is somewhere.
-fn stop_before(program: &Program, calls: &Calls, most: u32, turns: u32) -> Option<Stop>
+fn stop_before(program: &Program, calls: &Calls, most: u32) -> Option<Stop>
     requires { IsThreadOf program.now calls.now }
-    ensures { result ≡ alone.stop_before (own_image program.now) most turns calls.now (stages.before (own_image program.now) calls.now) }
+    ensures { result ≡ alone.stop_before (own_image program.now) most 0 calls.now (stages.before (own_image program.now) calls.now) }
 {
     match stands_before(program, calls) {
-        Before::Safe if most <= turns => Some(Stop::Spent),
+        Before::Safe if most == 0 => Some(Stop::Spent),
         Before::Shared => Some(Stop::AtStep),
         Before::Calls => no_room_unless(may_enter(program, calls)),
         _ => None,
@@ -98,8 +97,8 @@ fn no_room_unless(room: bool) -> Option<Stop>
     if room { None } else { Some(Stop::NoRoom) }
 }
 
-/// Whether there is room for the call before which a thread stands.
-pub(crate) fn may_enter(program: &Program, calls: &Calls) -> bool
+// Whether there is room for the call before which a thread stands.
+fn may_enter(program: &Program, calls: &Calls) -> bool
     requires { IsThreadOf program.now calls.now }
     ensures { (function : ℕ) → stages.before (own_image program.now) calls.now ≡ stages.calls function → result ≡ room_for (own_image program.now) calls.now function }
 {
