@@ -15,11 +15,12 @@ use Rattle.flat_meaning.specs.Order.{pick}
 use Rattle.flat_meaning.specs.Journals.{told, journal_picks}
 use Rattle.block_meaning.specs.declared.running.Turned.{Turned}
 use Rattle.block_meaning.specs.declared.running.Turned.TheVariants as turneds
-use Rattle.block_meaning.specs.Running.{Running, answered_if, left_by}
+use Rattle.block_meaning.specs.Running.{Running, HasEnded, answered_if, left_by}
 use Rattle.race_rules.specs.declared.touch.Touch.{Touch}
 use Rattle.race_rules.specs.Turns as turns
 use Rattle.race_rules.specs.Races.{Race, Second}
 use Rattle.race_rules.specs.Shown.{Shown}
+use Rattle.race_rules.specs.Histories.{StillTouched}
 use Rattle.race_rules.proofs.Knowing.{some_one}
 use Rattle.race_walk.specs.declared.walk.RaceWalk.{RaceWalk}
 use Rattle.race_walk.specs.declared.second.SecondTurn.{SecondTurn}
@@ -32,7 +33,7 @@ use Rattle.race_check.specs.declared.walking.Walked.{Walked}
 use Rattle.race_check.specs.declared.walking.Walked.TheVariants as walks
 use Rattle.race_check.specs.Ends.{HaveNoRace, IsTold, IsRaceEnd}
 use Rattle.race_check.specs.inner.Steps.{Begins, HasRun, IsSecond, IsWalked}
-use Rattle.race_check.proofs.Going.{HasCome, is_done, come_first, is_there, next_is, come_more, come_broke, come_all}
+use Rattle.race_check.proofs.Going.{HasCome, is_done, come_first, is_there, next_is, come_more, come_rests, come_broke, come_all}
 use Rattle.race_check.proofs.Telling.{race_end, broke_end, clean_end, none_race, reaches_breaks}
 
 -- ---- what a journal's turns are as picks
@@ -95,6 +96,11 @@ module _ (typed now : Typed) (order : List Pick) (k : ℕ) (left rest : List (�
 
     pub breaks_here : (rule : Rule) (place : ℕ) → t ≡ turneds.Broke rule place → (length (turns_of typed order) ≤ k) × (run typed order ≡ breaks rule k)
     breaks_here rule place e = come_broke typed order k (this_pick thread a) (picks rest) s rule place here (so.says ∙ ap Some e)
+
+-- no later turn touches a block that has ended
+pub along_rests : (typed now : Typed) (order : List Pick) (k : ℕ) (left : List (ℕ × journal.Answer)) (s : State Control) → IsAlong typed now order k left s →
+    (block : ℕ) → HasEnded s.world.blocks block → StillTouched (turns_of typed order) k block → ⊥
+along_rests typed now order k left s h block ended still = come_rests typed order k (picks left) s block h.come ended still
 
 -- the order has no turn more
 pub along_all : (typed now : Typed) (order : List Pick) (k : ℕ) (left : List (ℕ × journal.Answer)) (s : State Control) → IsAlong typed now order k left s → left ≡ [] → (length (turns_of typed order) ≤ k) × (run typed order ≡ reaches s)
