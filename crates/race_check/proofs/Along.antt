@@ -1,6 +1,7 @@
 -- The walks over an order, in the loops' words.
 use Rattle.std.proofs.Common.{◌≡◌, ℕ, suc, ◌+◌, ◌<◌, ◌≤◌, Bool, true, List, [], ◌∷◌, map, length, slice_get, Some, IsSome, inl, inr, refl, sym, ap, subst, ◌∙◌, arith}
 use Rattle.std.proofs.lemmas.Bool.{cases_lt}
+use Rattle.std.proofs.lemmas.Option.{slice_get_within}
 use Rattle.ak_words.specs.declared.rule.Rule.{Rule}
 use Rattle.ak_trace.specs.declared.entry.Entry.{Entry}
 use Rattle.ak_trace.specs.declared.order.Answer as journal
@@ -33,7 +34,7 @@ use Rattle.race_check.specs.declared.walking.Walked.{Walked}
 use Rattle.race_check.specs.declared.walking.Walked.TheVariants as walks
 use Rattle.race_check.specs.Ends.{HaveNoRace, IsTold, IsRaceEnd}
 use Rattle.race_check.specs.inner.Steps.{Begins, HasRun, IsSecond, IsWalked}
-use Rattle.race_check.proofs.Going.{HasCome, is_done, come_first, is_there, next_is, come_more, come_rests, come_broke, come_all}
+use Rattle.race_check.proofs.Going.{HasCome, is_done, is_waiting, come_first, is_there, next_is, come_more, come_waits, come_rests, come_broke, come_all}
 use Rattle.race_check.proofs.Telling.{race_end, broke_end, clean_end, none_race, reaches_breaks}
 
 -- ---- what a journal's turns are as picks
@@ -93,6 +94,9 @@ module _ (typed now : Typed) (order : List Pick) (k : ℕ) (left rest : List (�
         let F : ℕ → Type 0 = λ m. HasCome typed order m (picks rest) after in
         let e : suc k ≡ n = omega (arith, count) in
         record { program_stays = same ∙ h.program_stays; come = subst F e (come_more typed order k (this_pick thread a) (picks rest) s after t here so.says done so.leaves) }
+
+    pub waits_never : HasRun typed order → is_waiting t ≡ true → ⊥
+    waits_never has waiting = come_waits typed order k (this_pick thread a) (picks rest) s t has here so.says waiting
 
     pub breaks_here : (rule : Rule) (place : ℕ) → t ≡ turneds.Broke rule place → (length (turns_of typed order) ≤ k) × (run typed order ≡ breaks rule k)
     breaks_here rule place e = come_broke typed order k (this_pick thread a) (picks rest) s rule place here (so.says ∙ ap Some e)
@@ -159,6 +163,14 @@ tells ts s turn thread touches one other second at none shown =
       first_side = record { thread = ap F (some_one at shown.race.first_is); place = refl };
       second_side = record { thread = ap F (some_one second.of.at shown.race.second_is); place = refl };
     }
+
+-- some turn before the second one races with it
+pub second_past : (ts : List turns.Turn) (s : SecondTurn) (turn : ℕ) → IsSecond ts s → NoneSoFar ts turn s.turn → s.turn ≤ turn → ⊥
+second_past ts s turn second none past = let early = second.is.race.earlier in none second.is.turn (omega (arith, early, past)) second.is.race
+
+-- and the second one is there
+pub second_gone : (ts : List turns.Turn) (s : SecondTurn) (turn : ℕ) → IsSecond ts s → NoneSoFar ts turn s.turn → length ts ≤ turn → ⊥
+second_gone ts s turn second none past = let there = slice_get_within ts s.turn (this_turn s.thread s.touches.items) second.of.at in second_past ts s turn second none (omega (arith, there, past))
 
 -- ---- what is told by where the first walk ends
 

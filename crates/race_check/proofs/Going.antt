@@ -63,6 +63,35 @@ there : {A : Type 0} (P : Program A) (go : State A → Run A) (s : State A) (thr
 there P go s thread k None r e never = absurd (never k (sym e))
 there P go s thread k (Some t) r e never = refl
 
+-- a turn that waits, or doesn't take its answer
+abbrev pub is_waiting : Turned → Bool
+is_waiting turneds.Went = false
+is_waiting (turneds.Ended exit) = false
+is_waiting turneds.Blocked = true
+is_waiting turneds.Unfit = true
+is_waiting (turneds.Broke rule place) = false
+
+pub waiting_is : (t : Turned) → (t ≡ turneds.Blocked) ⊎ (t ≡ turneds.Unfit) → is_waiting t ≡ true
+waiting_is t (inl e) = ap is_waiting e
+waiting_is t (inr e) = ap is_waiting e
+
+not_waiting : (t u : Turned) → Some t ≡ Some u → is_waiting t ≡ false → is_waiting u ≡ true → ⊥
+not_waiting t u e f g = let same : t ≡ u = cc e in absurd (cc (sym f ∙ ap is_waiting same ∙ g))
+
+ended_is_done : (is_main : Bool) (value : Option ℤ) (t : Turned) → ended_by is_main value ≡ Some t → is_waiting t ≡ true → ⊥
+ended_is_done true None t e g = absurd (cc e)
+ended_is_done true (Some z) t e g = not_waiting (turneds.Ended z) t e refl g
+ended_is_done false value t e g = not_waiting turneds.Went t e refl g
+
+-- behind it there is no run
+run_waits : (typed : Typed) (go : State Control → Run Control) (s : State Control) (thread k : ℕ) (o : Option (Turn Control)) (t : Turned) → answered_if thread o ≡ Some t → is_waiting t ≡ true → goes_on (program typed) go s thread k o ≡ no_run k
+run_waits typed go s thread k None t e g = absurd (cc e)
+run_waits typed go s thread k (Some (went own w)) t e g = absurd (not_waiting turneds.Went t e refl g)
+run_waits typed go s thread k (Some (ended w)) t e g = absurd (ended_is_done (thread == 0) (ended_with w 0) t e g)
+run_waits typed go s thread k (Some blocked) t e g = refl
+run_waits typed go s thread k (Some unfit) t e g = refl
+run_waits typed go s thread k (Some (broke rule place)) t e g = absurd (not_waiting (turneds.Broke rule place) t e refl g)
+
 -- the run and the turns go on from what a turn leaves that is done
 run_on : (typed : Typed) (go : State Control → Run Control) (s after : State Control) (thread k : ℕ) (o : Option (Turn Control)) (t : Turned) → answered_if thread o ≡ Some t → is_done t ≡ true → after ≡ left_by typed s thread o →
     goes_on (program typed) go s thread k o ≡ go after
@@ -136,6 +165,10 @@ come_more typed order k p left s after t h e done leaves = record {
       after_drop (turns_of typed order) k (this_turn p.thread (touched_by (picked (program typed) s p))) (turns_from typed left after)
       (h.turns ∙ turns_on typed (turns_from typed left) s after p.thread (picked (program typed) s p) t e done leaves);
 }
+
+-- where the order has a run it isn't one that waits
+pub come_waits : (typed : Typed) (order : List Pick) (k : ℕ) (p : Pick) (left : List Pick) (s : State Control) (t : Turned) → HasRun typed order → HasCome typed order k (p ∷ left) s → answered_if p.thread (picked (program typed) s p) ≡ Some t → is_waiting t ≡ true → ⊥
+come_waits typed order k p left s t has h e g = has k (sym h.comes ∙ run_waits typed (run_from (program typed) left (suc k)) s p.thread k (picked (program typed) s p) t e g)
 
 -- no later turn touches a block that has ended
 pub come_rests : (typed : Typed) (order : List Pick) (k : ℕ) (left : List Pick) (s : State Control) (block : ℕ) → HasCome typed order k left s → HasEnded s.world.blocks block → StillTouched (turns_of typed order) k block → ⊥

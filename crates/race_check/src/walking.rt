@@ -49,7 +49,7 @@ pub fn walk(alloc: Global, run: &mut SourceRun, journal: &Journal) -> Result<Wal
                 let turns = walk.turns;
                 return Ok(Walked::Broke { rule, turns });
             }
-            Turned::Blocked | Turned::Unfit => return Err(NoMemory),
+            Turned::Blocked | Turned::Unfit => unreachable!(),
         }
     }
     Ok(Walked::Clean)
