@@ -1,6 +1,6 @@
 -- A block that has ended stays so, whatever is done.
-use Rattle.std.proofs.Common.{◌≡◌, ◌+◌, ◌==◌, ℕ, zero, suc, Bool, true, false, List, [], ◌∷◌, ◌++◌, length, replicate, set, slice_get, Option, Some, None, Ok, Err, ℤ, refl, sym, ap, subst, ◌∙◌}
-use Rattle.std.specs.Prelude.{Result, pos, if◌then◌else◌, ◌^◌, ◌/◌, ◌%◌, nat_lt, nat_le}
+use Rattle.std.proofs.Common.{◌≡◌, ◌+◌, ◌==◌, ℕ, zero, suc, Bool, true, false, List, [], ◌∷◌, ◌++◌, length, replicate, set, slice_get, Option, Some, None, Ok, Err, ℤ, refl, sym, ap, ◌∙◌}
+use Rattle.std.specs.Prelude.{Result, if◌then◌else◌, ◌^◌, ◌/◌, ◌%◌, nat_lt, nat_le}
 use Rattle.std.specs.Option.{option_flatten}
 use Rattle.std.specs.Ordering.{int_eq}
 use Rattle.ak_words.specs.declared.int_type.IntType.{IntType}
@@ -21,7 +21,7 @@ use Rattle.block_store.specs.declared.values.Value.TheVariants as values
 use Rattle.block_store.specs.Actions as actions
 use Rattle.block_store.specs.Actions.{World, Done, Outcomes, SharedAction, Stage, ThreadRecord, with_blocks}
 use Rattle.block_store.specs.Atomics.{Number, writable, writable_at, number_read, number_in, with_number, becomes, change_of, compare_numbers, compare_places}
-use Rattle.block_store.specs.Blocks.{Block, Blocks, Range, live, made, is_freeable, is_literal, range_in, range_at, spot_at, cells_at, with_cells, with_cells_at, written_at, stored, clash, copied_to, copied_between, copied, freed, ended, loaded, renewed, resized, cells_in, made_with}
+use Rattle.block_store.specs.Blocks.{Block, Blocks, Range, live, is_freeable, is_literal, range_in, range_at, spot_at, cells_at, with_cells, with_cells_at, written_at, stored, clash, copied_to, copied_between, copied, freed, ended, loaded, renewed, resized, cells_in, made_with}
 use Rattle.block_store.specs.Cells.{size_of, access_of, cells_of, read_number}
 use Rattle.block_store.specs.Mutexes.{Mutex, with_number as with_mutex_number, mutex_in, mutex_at, renumbered, lock_by, locked, unlock_by, unlocked, destroyed}
 use Rattle.block_meaning.specs.Running.{HasEnded}

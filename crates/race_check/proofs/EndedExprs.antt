@@ -1,5 +1,5 @@
 -- No expression reads or writes a block that has ended, and the block stays so.
-use Rattle.std.proofs.Common.{ℕ, Bool, true, false, List, [], ◌∷◌, ◌++◌, length, slice_get, Option, Some, None, Ok, Err, ℤ}
+use Rattle.std.proofs.Common.{ℕ, Bool, true, false, List, [], ◌∷◌, ◌++◌, slice_get, Option, Some, None, Ok, Err, ℤ}
 use Rattle.std.specs.Prelude.{Result, if◌then◌else◌}
 use Rattle.ak_words.specs.declared.rule.Rule.{Rule}
 use Rattle.ak_words.specs.declared.int_type.IntType.{IntType}
@@ -12,7 +12,6 @@ use Rattle.block_store.specs.declared.values.Value.{Value}
 use Rattle.block_store.specs.declared.values.Value.TheVariants as values
 use Rattle.block_store.specs.Actions as actions
 use Rattle.block_store.specs.Actions.{World, SharedAction, Done}
-use Rattle.block_store.specs.Blocks.{Blocks}
 use Rattle.block_store.specs.Runs.{Turn, went, ended, blocked, unfit, broke}
 use Rattle.c_tree.specs.Typed as tree
 use Rattle.c_meaning.specs.Control as control

@@ -1,6 +1,6 @@
 -- An action that would read or write a block that has ended breaks a rule.
-use Rattle.std.proofs.Common.{◌≡◌, ◌+◌, ◌==◌, ◌/◌, ◌⊎◌, inl, inr, ℕ, zero, suc, Bool, true, false, List, [], ◌∷◌, ◌++◌, length, map, slice_get, Option, Some, None, Ok, Err, ℤ, refl, sym, ap, subst, ◌∙◌}
-use Rattle.std.specs.Prelude.{Result, pos, if◌then◌else◌}
+use Rattle.std.proofs.Common.{◌≡◌, ◌==◌, ◌/◌, ◌⊎◌, inl, inr, ℕ, Bool, true, false, List, [], ◌∷◌, ◌++◌, length, slice_get, Option, Some, None, Ok, Err, ℤ, refl, sym, ap, subst, ◌∙◌}
+use Rattle.std.specs.Prelude.{Result, if◌then◌else◌}
 use Rattle.ak_words.specs.declared.int_type.IntType.{IntType}
 use Rattle.ak_words.specs.declared.rule.Rule.{Rule}
 use Rattle.ak_words.specs.declared.rule.Rule.TheVariants.{C5, C14}
@@ -11,16 +11,15 @@ use Rattle.block_store.specs.declared.values.Answer.TheVariants as answers
 use Rattle.block_store.specs.declared.values.Change.{Change}
 use Rattle.block_store.specs.declared.values.Ptr.{Ptr}
 use Rattle.block_store.specs.declared.values.Ptr.TheVariants.{Null, To}
-use Rattle.block_store.specs.declared.values.Value.{Value}
 use Rattle.block_store.specs.declared.values.Value.TheVariants as values
 use Rattle.block_store.specs.Actions as actions
 use Rattle.block_store.specs.Actions.{World, Done, SharedAction, Stage, ThreadRecord, Printed, Reached, bytes_at, reading, writing, reading_part, reading_on, reading_parts, printed_bytes, all_bytes, joined_bytes}
 use Rattle.block_store.specs.Atomics.{Compared, changed, compared, change_of, number_in, compare_places, writable, writable_at}
-use Rattle.block_store.specs.Blocks.{Block, Blocks, Range, live, range_in, range_at, spot_at, read_at, written_at, loaded, stored, copied_between, copied, cells_in}
+use Rattle.block_store.specs.Blocks.{Block, Range, live, range_in, range_at, read_at, written_at, loaded, stored, copied_between, copied, cells_in}
 use Rattle.block_store.specs.Cells.{size_of, access_of, cells_of}
 use Rattle.block_store.specs.Mutexes.{mutex_in, destroy_of, destroyed}
 use Rattle.block_store.specs.Texts.{text_in}
-use Rattle.c_meaning.specs.Touches.{touching, each, of_thread, whole_block, renewal, compare_ends, starting, touches_of, read_kind, write_kind}
+use Rattle.c_meaning.specs.Touches.{each, of_thread, whole_block, renewal, compare_ends, starting, touches_of, read_kind, write_kind}
 use Rattle.race_rules.specs.declared.touch.Touch.{Touch}
 use Rattle.race_rules.specs.declared.touch.TouchKind.{TouchKind}
 use Rattle.race_rules.specs.declared.touch.TouchKind.TheVariants.{Read, Write, AtomicRead, AtomicWrite, Lock, Unlock, Start, Join}

@@ -1,5 +1,5 @@
 -- No turn reads or writes a block that has ended, and the block stays so.
-use Rattle.std.proofs.Common.{◌≡◌, ℕ, zero, suc, Bool, true, false, List, [], ◌∷◌, ◌++◌, length, replicate, slice_get, Option, Some, None, refl, subst}
+use Rattle.std.proofs.Common.{ℕ, zero, suc, Bool, true, false, List, [], ◌∷◌, length, replicate, Option, Some, None}
 use Rattle.std.specs.Prelude.{if◌then◌else◌}
 use Rattle.block_store.specs.declared.values.Answer.{Answer}
 use Rattle.block_store.specs.declared.values.BlockKind.TheVariants as kinds
@@ -14,11 +14,11 @@ use Rattle.c_meaning.specs.Control.{Control, Variable, Todo, Use, TurnStart, Loo
 use Rattle.c_meaning.specs.Library.{changed_by}
 use Rattle.c_meaning.specs.Switches.{chosen, starts_at}
 use Rattle.c_meaning.specs.Values.{access_of_type, is_atomic, is_minus, is_scalar, truth_of, updated}
-use Rattle.c_meaning.specs.Turns.{TurnContext, Now, Does, Way, WayOfUse, stays, after_call, local_at, is_block, is_atomic_local, size_of_local, variable_at, with_variable, ended_if, ended_local, ended_locals, made_local, declared_local, declared, declared_by, pointer_in, run, run_node, run_place, run_place_node, run_arguments, nowhere_way, drops_object, run_dropped, run_dropped_node, local_way, place_way, left_way, struct_right_way, struct_left_way, is_struct, assigns_object, assigns, update_read_way, update_reads, update_changes, update_right_way, update_left_way, updates_variable, update_local_way, updates, initialises, declares, caller_way, returns, if_way, nothing, leaving, leave_way, row_way, end_way, round_over, step_way, body_way, loop_test_way, rounds_if, rounds, loop_way, while_loop, for_loop, do_loop, switch_way, starts, switch_test_way, update_of, run_stmt, run_stmt_node, run_row, run_from, way_of, use_of, from_point, here, turn}
+use Rattle.c_meaning.specs.Turns.{TurnContext, Now, Does, Way, stays, after_call, local_at, is_block, is_atomic_local, size_of_local, variable_at, with_variable, ended_if, ended_local, ended_locals, made_local, declared_local, declared, declared_by, pointer_in, run, run_node, run_place, run_place_node, run_arguments, nowhere_way, drops_object, run_dropped, run_dropped_node, local_way, place_way, left_way, struct_right_way, struct_left_way, is_struct, assigns_object, assigns, update_read_way, update_reads, update_changes, update_right_way, update_left_way, updates_variable, update_local_way, updates, initialises, declares, caller_way, returns, if_way, nothing, leaving, row_way, end_way, round_over, step_way, body_way, loop_test_way, rounds_if, rounds, loop_way, while_loop, for_loop, do_loop, switch_way, starts, switch_test_way, update_of, run_stmt, run_stmt_node, run_row, run_from, way_of, use_of, from_point, here, turn}
 use Rattle.race_rules.proofs.Touching.{no_has}
 use Rattle.block_meaning.specs.Running.{HasEnded}
 use Rattle.race_check.proofs.EndedActions.{set_none, append_stays}
-use Rattle.race_check.proofs.EndedExprs.{block_value, Spares, DoesSpare, UseSpares, WaySpares, Runs, spares_if, on_ok_spares, plainly_spares, acts_spare, leaves_spare, read_spares, only_spares, second_spares, first_spares, second_test_spares, first_test_spares, choice_spares, argument_spares, run_spares, run_node_spares, run_place_spares, run_place_node_spares, run_arguments_spare}
+use Rattle.race_check.proofs.EndedExprs.{block_value, Spares, DoesSpare, UseSpares, WaySpares, spares_if, on_ok_spares, plainly_spares, acts_spare, leaves_spare, read_spares, only_spares, second_spares, first_spares, second_test_spares, first_test_spares, choice_spares, argument_spares, run_spares, run_node_spares, run_place_spares, run_place_node_spares, run_arguments_spare}
 
 -- a statement, as it is executed before what follows it
 abbrev Executes : (gone : ℕ) → (Way → Does) → Type 0

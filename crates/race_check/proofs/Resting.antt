@@ -1,5 +1,5 @@
 -- No turn of an order reads or writes a block that has ended before it.
-use Rattle.std.proofs.Common.{◌≡◌, ℕ, zero, suc, List, [], ◌∷◌, slice_get, Option, Some, None, refl, sym, ap, subst, ◌∙◌}
+use Rattle.std.proofs.Common.{◌≡◌, ℕ, zero, suc, List, [], ◌∷◌, slice_get, Option, Some, None, sym, subst}
 use Rattle.block_store.specs.Runs.{Turn, went, ended, blocked, unfit, broke, State, Pick, picked, turn_if, own_at, next_state}
 use Rattle.c_tree.specs.Typed.{Typed}
 use Rattle.c_meaning.specs.Control.{Control}
