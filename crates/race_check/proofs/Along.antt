@@ -1,6 +1,7 @@
 -- The walks over an order, in the loops' words.
 use Rattle.std.proofs.Common.{◌≡◌, ℕ, suc, ◌+◌, ◌<◌, ◌≤◌, Bool, true, List, [], ◌∷◌, map, length, slice_get, Some, IsSome, inl, inr, refl, sym, ap, subst, ◌∙◌, arith}
 use Rattle.std.proofs.lemmas.Bool.{cases_lt}
+use Rattle.std.proofs.lemmas.Option.{slice_get_within}
 use Rattle.ak_words.specs.declared.rule.Rule.{Rule}
 use Rattle.ak_trace.specs.declared.entry.Entry.{Entry}
 use Rattle.ak_trace.specs.declared.order.Answer as journal
@@ -15,11 +16,12 @@ use Rattle.flat_meaning.specs.Order.{pick}
 use Rattle.flat_meaning.specs.Journals.{told, journal_picks}
 use Rattle.block_meaning.specs.declared.running.Turned.{Turned}
 use Rattle.block_meaning.specs.declared.running.Turned.TheVariants as turneds
-use Rattle.block_meaning.specs.Running.{Running, answered_if, left_by}
+use Rattle.block_meaning.specs.Running.{Running, HasEnded, answered_if, left_by}
 use Rattle.race_rules.specs.declared.touch.Touch.{Touch}
 use Rattle.race_rules.specs.Turns as turns
 use Rattle.race_rules.specs.Races.{Race, Second}
 use Rattle.race_rules.specs.Shown.{Shown}
+use Rattle.race_rules.specs.Histories.{StillTouched}
 use Rattle.race_rules.proofs.Knowing.{some_one}
 use Rattle.race_walk.specs.declared.walk.RaceWalk.{RaceWalk}
 use Rattle.race_walk.specs.declared.second.SecondTurn.{SecondTurn}
@@ -32,7 +34,7 @@ use Rattle.race_check.specs.declared.walking.Walked.{Walked}
 use Rattle.race_check.specs.declared.walking.Walked.TheVariants as walks
 use Rattle.race_check.specs.Ends.{HaveNoRace, IsTold, IsRaceEnd}
 use Rattle.race_check.specs.inner.Steps.{Begins, HasRun, IsSecond, IsWalked}
-use Rattle.race_check.proofs.Going.{HasCome, is_done, come_first, is_there, next_is, come_more, come_broke, come_all}
+use Rattle.race_check.proofs.Going.{HasCome, is_done, is_waiting, come_first, is_there, next_is, come_more, come_waits, come_rests, come_broke, come_all}
 use Rattle.race_check.proofs.Telling.{race_end, broke_end, clean_end, none_race, reaches_breaks}
 
 -- ---- what a journal's turns are as picks
@@ -93,8 +95,16 @@ module _ (typed now : Typed) (order : List Pick) (k : ℕ) (left rest : List (�
         let e : suc k ≡ n = omega (arith, count) in
         record { program_stays = same ∙ h.program_stays; come = subst F e (come_more typed order k (this_pick thread a) (picks rest) s after t here so.says done so.leaves) }
 
+    pub waits_never : HasRun typed order → is_waiting t ≡ true → ⊥
+    waits_never has waiting = come_waits typed order k (this_pick thread a) (picks rest) s t has here so.says waiting
+
     pub breaks_here : (rule : Rule) (place : ℕ) → t ≡ turneds.Broke rule place → (length (turns_of typed order) ≤ k) × (run typed order ≡ breaks rule k)
     breaks_here rule place e = come_broke typed order k (this_pick thread a) (picks rest) s rule place here (so.says ∙ ap Some e)
+
+-- no later turn touches a block that has ended
+pub along_rests : (typed now : Typed) (order : List Pick) (k : ℕ) (left : List (ℕ × journal.Answer)) (s : State Control) → IsAlong typed now order k left s →
+    (block : ℕ) → HasEnded s.world.blocks block → StillTouched (turns_of typed order) k block → ⊥
+along_rests typed now order k left s h block ended still = come_rests typed order k (picks left) s block h.come ended still
 
 -- the order has no turn more
 pub along_all : (typed now : Typed) (order : List Pick) (k : ℕ) (left : List (ℕ × journal.Answer)) (s : State Control) → IsAlong typed now order k left s → left ≡ [] → (length (turns_of typed order) ≤ k) × (run typed order ≡ reaches s)
@@ -153,6 +163,14 @@ tells ts s turn thread touches one other second at none shown =
       first_side = record { thread = ap F (some_one at shown.race.first_is); place = refl };
       second_side = record { thread = ap F (some_one second.of.at shown.race.second_is); place = refl };
     }
+
+-- some turn before the second one races with it
+pub second_past : (ts : List turns.Turn) (s : SecondTurn) (turn : ℕ) → IsSecond ts s → NoneSoFar ts turn s.turn → s.turn ≤ turn → ⊥
+second_past ts s turn second none past = let early = second.is.race.earlier in none second.is.turn (omega (arith, early, past)) second.is.race
+
+-- and the second one is there
+pub second_gone : (ts : List turns.Turn) (s : SecondTurn) (turn : ℕ) → IsSecond ts s → NoneSoFar ts turn s.turn → length ts ≤ turn → ⊥
+second_gone ts s turn second none past = let there = slice_get_within ts s.turn (this_turn s.thread s.touches.items) second.of.at in second_past ts s turn second none (omega (arith, there, past))
 
 -- ---- what is told by where the first walk ends
 

@@ -1,5 +1,5 @@
 -- How the run of an order goes on, turn by turn, and its turns with it.
-use Rattle.std.proofs.Common.{◌≡◌, ℕ, zero, suc, ◌≤◌, ◌==◌, ◌⊎◌, inl, inr, Bool, true, false, List, [], ◌∷◌, length, drop, slice_get, Option, Some, None, IsSome, ℤ, refl, sym, ap, ◌∙◌, arith, length-drop}
+use Rattle.std.proofs.Common.{◌≡◌, ℕ, zero, suc, ◌-◌, ◌≤◌, ◌==◌, ◌⊎◌, inl, inr, Bool, true, false, List, [], ◌∷◌, length, drop, slice_get, Option, Some, None, IsSome, ℤ, refl, sym, ap, subst, ◌∙◌, arith, length-drop}
 use Rattle.ak_words.specs.declared.rule.Rule.{Rule}
 use Rattle.block_store.specs.Runs.{Program, State, Pick, Turn, went, ended, blocked, unfit, broke, Run, reaches, breaks, no_run, first_state, goes_on, picked, run_from}
 use Rattle.c_tree.specs.Typed.{Typed}
@@ -8,10 +8,12 @@ use Rattle.c_meaning.specs.Meaning.{program, start, run}
 use Rattle.c_meaning.specs.Touching.{touched_by, turns_then, turns_from, turns_of}
 use Rattle.block_meaning.specs.declared.running.Turned.{Turned}
 use Rattle.block_meaning.specs.declared.running.Turned.TheVariants as turneds
-use Rattle.block_meaning.specs.Running.{answered_if, ended_by, ended_with, left_by}
+use Rattle.block_meaning.specs.Running.{HasEnded, answered_if, ended_by, ended_with, left_by}
 use Rattle.race_rules.specs.Turns as turns
+use Rattle.race_rules.specs.Histories.{StillTouched}
 use Rattle.race_walk.specs.Views.{this_turn}
 use Rattle.race_check.specs.inner.Steps.{HasRun}
+use Rattle.race_check.proofs.Resting.{ended_rests}
 
 -- ---- what is left of a list
 
@@ -28,6 +30,13 @@ pub after_drop : {X : Type 0} (xs : List X) (k : ℕ) (x : X) (rest : List X) �
 after_drop [] k x rest e = absurd (at_nil k x rest e)
 after_drop (y ∷ xs) zero x rest e = cc e
 after_drop (y ∷ xs) (suc k) x rest e = after_drop xs k x rest e
+
+-- the element at the same place from there on
+pub from_drop : {X : Type 0} (xs : List X) (k i : ℕ) → k ≤ i → slice_get (drop k xs) (i - k) ≡ slice_get xs i
+from_drop xs zero i h = let e : i - 0 ≡ i = omega arith in ap (λ j. slice_get xs j) e
+from_drop [] (suc k) i h = refl
+from_drop (x ∷ xs) (suc k) zero h = absurd (omega (arith, h))
+from_drop (x ∷ xs) (suc k) (suc i) h = let e : suc i - suc k ≡ i - k = omega arith in ap (λ j. slice_get (drop k xs) j) e ∙ from_drop xs k i (omega (arith, h))
 
 pub none_left : {X : Type 0} (xs : List X) (k : ℕ) → drop k xs ≡ [] → length xs ≤ k
 none_left xs k e = let f = length-drop k xs in let F : List _ → ℕ = λ l. length l in let g = ap F e in omega (arith, f, g)
@@ -53,6 +62,35 @@ not_done t u e f g = let same : t ≡ u = cc e in absurd (cc (sym f ∙ ap is_do
 there : {A : Type 0} (P : Program A) (go : State A → Run A) (s : State A) (thread k : ℕ) (o : Option (Turn A)) (r : Run A) → goes_on P go s thread k o ≡ r → ((n : ℕ) → r ≡ no_run n → ⊥) → IsSome o
 there P go s thread k None r e never = absurd (never k (sym e))
 there P go s thread k (Some t) r e never = refl
+
+-- a turn that waits, or doesn't take its answer
+abbrev pub is_waiting : Turned → Bool
+is_waiting turneds.Went = false
+is_waiting (turneds.Ended exit) = false
+is_waiting turneds.Blocked = true
+is_waiting turneds.Unfit = true
+is_waiting (turneds.Broke rule place) = false
+
+pub waiting_is : (t : Turned) → (t ≡ turneds.Blocked) ⊎ (t ≡ turneds.Unfit) → is_waiting t ≡ true
+waiting_is t (inl e) = ap is_waiting e
+waiting_is t (inr e) = ap is_waiting e
+
+not_waiting : (t u : Turned) → Some t ≡ Some u → is_waiting t ≡ false → is_waiting u ≡ true → ⊥
+not_waiting t u e f g = let same : t ≡ u = cc e in absurd (cc (sym f ∙ ap is_waiting same ∙ g))
+
+ended_is_done : (is_main : Bool) (value : Option ℤ) (t : Turned) → ended_by is_main value ≡ Some t → is_waiting t ≡ true → ⊥
+ended_is_done true None t e g = absurd (cc e)
+ended_is_done true (Some z) t e g = not_waiting (turneds.Ended z) t e refl g
+ended_is_done false value t e g = not_waiting turneds.Went t e refl g
+
+-- behind it there is no run
+run_waits : (typed : Typed) (go : State Control → Run Control) (s : State Control) (thread k : ℕ) (o : Option (Turn Control)) (t : Turned) → answered_if thread o ≡ Some t → is_waiting t ≡ true → goes_on (program typed) go s thread k o ≡ no_run k
+run_waits typed go s thread k None t e g = absurd (cc e)
+run_waits typed go s thread k (Some (went own w)) t e g = absurd (not_waiting turneds.Went t e refl g)
+run_waits typed go s thread k (Some (ended w)) t e g = absurd (ended_is_done (thread == 0) (ended_with w 0) t e g)
+run_waits typed go s thread k (Some blocked) t e g = refl
+run_waits typed go s thread k (Some unfit) t e g = refl
+run_waits typed go s thread k (Some (broke rule place)) t e g = absurd (not_waiting (turneds.Broke rule place) t e refl g)
 
 -- the run and the turns go on from what a turn leaves that is done
 run_on : (typed : Typed) (go : State Control → Run Control) (s after : State Control) (thread k : ℕ) (o : Option (Turn Control)) (t : Turned) → answered_if thread o ≡ Some t → is_done t ≡ true → after ≡ left_by typed s thread o →
@@ -127,6 +165,17 @@ come_more typed order k p left s after t h e done leaves = record {
       after_drop (turns_of typed order) k (this_turn p.thread (touched_by (picked (program typed) s p))) (turns_from typed left after)
       (h.turns ∙ turns_on typed (turns_from typed left) s after p.thread (picked (program typed) s p) t e done leaves);
 }
+
+-- where the order has a run it isn't one that waits
+pub come_waits : (typed : Typed) (order : List Pick) (k : ℕ) (p : Pick) (left : List Pick) (s : State Control) (t : Turned) → HasRun typed order → HasCome typed order k (p ∷ left) s → answered_if p.thread (picked (program typed) s p) ≡ Some t → is_waiting t ≡ true → ⊥
+come_waits typed order k p left s t has h e g = has k (sym h.comes ∙ run_waits typed (run_from (program typed) left (suc k)) s p.thread k (picked (program typed) s p) t e g)
+
+-- no later turn touches a block that has ended
+pub come_rests : (typed : Typed) (order : List Pick) (k : ℕ) (left : List Pick) (s : State Control) (block : ℕ) → HasCome typed order k left s → HasEnded s.world.blocks block → StillTouched (turns_of typed order) k block → ⊥
+come_rests typed order k left s block h gone still =
+    let F : List turns.Turn → Type 0 = λ ts. slice_get ts (still.turn - k) ≡ Some still.it in
+    ended_rests typed block left s gone
+    (record { turn = still.turn - k; it = still.it; is = subst F h.turns (from_drop (turns_of typed order) k still.turn still.late ∙ still.is); late = omega arith; touch = still.touch })
 
 -- where it breaks a rule the run does, and there are no more turns
 pub come_broke : (typed : Typed) (order : List Pick) (k : ℕ) (p : Pick) (left : List Pick) (s : State Control) (rule : Rule) (place : ℕ) → HasCome typed order k (p ∷ left) s → answered_if p.thread (picked (program typed) s p) ≡ Some (turneds.Broke rule place) →

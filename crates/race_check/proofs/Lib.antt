@@ -1,3 +1,8 @@
+pub mod EndedActions
+pub mod EndedTouches
+pub mod EndedExprs
+pub mod EndedTurns
+pub mod Resting
 pub mod Going
 pub mod Telling
 pub mod Along

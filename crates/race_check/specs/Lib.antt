@@ -1,3 +1,4 @@
 pub mod Ends
+pub mod Resting
 pub mod Rows
 pub mod inner

@@ -27,7 +27,7 @@ pub fn first_with(
     let mut turn = 0;
     for (thread, answer) in journal.walk() {
         if turn >= second.turn {
-            return Err(NoMemory);
+            unreachable!()
         }
         match run.turn(thread, told(answer))? {
             Turned::Went | Turned::Ended(_) => {
@@ -46,8 +46,8 @@ pub fn first_with(
                 }
                 turn += 1;
             }
-            Turned::Broke(_, _) | Turned::Blocked | Turned::Unfit => return Err(NoMemory),
+            Turned::Broke(_, _) | Turned::Blocked | Turned::Unfit => unreachable!(),
         }
     }
-    Err(NoMemory)
+    unreachable!()
 }

@@ -8,6 +8,7 @@ mod answers;
 mod checking;
 mod ending;
 mod finding;
+mod forgetting;
 pub mod laws;
 mod walking;
 

@@ -5,6 +5,7 @@ ghost use Rattle.block_meaning.specs.Running.{running_of};
 ghost use Rattle.race_check.specs.inner.Steps.{Begins, HasRun, IsWalked};
 
 use crate::answers::told;
+use crate::forgetting::{FIRST_LIMIT, forget_beyond};
 use ak_trace::Journal;
 use ak_words::{NoMemory, Rule};
 use block_meaning::{SourceRun, Turned};
@@ -30,6 +31,7 @@ pub fn walk(alloc: Global, run: &mut SourceRun, journal: &Journal) -> Result<Wal
     ensures program { (running_of run.new).typed ≡ (running_of run.old).typed }
 {
     let mut walk = RaceWalk::new(alloc);
+    let mut limit = FIRST_LIMIT;
     for (thread, answer) in journal.walk() {
         match run.turn(thread, told(answer))? {
             Turned::Went | Turned::Ended(_) => {
@@ -41,12 +43,13 @@ pub fn walk(alloc: Global, run: &mut SourceRun, journal: &Journal) -> Result<Wal
                     let second = walk.second(alloc, thread, touches)?;
                     return Ok(Walked::Raced(second));
                 }
+                limit = forget_beyond(alloc, &mut walk, run, limit)?;
             }
             Turned::Broke(rule, _) => {
                 let turns = walk.turns;
                 return Ok(Walked::Broke { rule, turns });
             }
-            Turned::Blocked | Turned::Unfit => return Err(NoMemory),
+            Turned::Blocked | Turned::Unfit => unreachable!(),
         }
     }
     Ok(Walked::Clean)

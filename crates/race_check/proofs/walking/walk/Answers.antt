@@ -3,7 +3,7 @@ use Rattle.flat_meaning.specs.Journals.{journal_picks}
 use Rattle.c_meaning.specs.Touching.{turns_of}
 use Rattle.block_meaning.specs.Running.{running_of}
 use Rattle.race_check.proofs.Going.{went_is_done}
-use Rattle.race_check.proofs.Along.{IsTurned, along_all, along_more, turn_is, breaks_here, ends_clean, ends_broke, ends_raced}
+use Rattle.race_check.proofs.Along.{IsTurned, along_all, along_more, along_rests, turn_is, breaks_here, ends_clean, ends_broke, ends_raced}
 use Rattle.race_check.proofs.walking.walk.Goals as goal
 
 pub returns-then-branch-clause-walked : goal.returns-then-branch-clause-walked
@@ -37,12 +37,15 @@ loop-thread-preserved c =
     let at = turn_is typed now order c.loop-thread.walk.turns c.loop-thread.thread-iterator c.next.new.self s c.in-Some.thread c.in-Some.answer c.told.result c.loop-thread.invariant.along c.in-Some.ensures.steps c.told.ensures
     after c.in_ok-turn.field-0 touches turned done in
     let f = c.in_ok-turn-in-Went.ensures.finds (turns_of typed order) c.loop-thread.invariant.after at in
+    let kept = c.in_ok-limit-in-Went.ensures in
+    let more = along_more typed now order c.loop-thread.walk.turns c.loop-thread.thread-iterator c.next.new.self s c.in-Some.thread c.in-Some.answer c.told.result c.loop-thread.invariant.along c.in-Some.ensures.steps c.told.ensures
+    after c.in_ok-turn.field-0 touches turned ((running_of c.turn.new.self).typed) in
     record {
       can_next = tt;
       is_finite = tt;
-      along = along_more typed now order c.loop-thread.walk.turns c.loop-thread.thread-iterator c.next.new.self s c.in-Some.thread c.in-Some.answer c.told.result c.loop-thread.invariant.along c.in-Some.ensures.steps c.told.ensures
-          after c.in_ok-turn.field-0 touches turned ((running_of c.turn.new.self).typed) c.turn-in-Went.new.self.turns c.in_ok-turn.ensures.program (f.counts c.if-branch.false) done;
-      after = f.goes_on c.if-branch.false;
+      along = more c.forget_beyond.new.walk.turns c.in_ok-turn.ensures.program (kept.count ∙ f.counts c.if-branch.false) done;
+      after = kept.after (turns_of typed order) (f.goes_on c.if-branch.false)
+          (λ block gone still. along_rests typed ((running_of c.turn.new.self).typed) order c.turn-in-Went.new.self.turns c.next.new.self after (more c.turn-in-Went.new.self.turns c.in_ok-turn.ensures.program (f.counts c.if-branch.false) done) block gone still);
     }
 
 pub returns-in-Broke-clause-walked : goal.returns-in-Broke-clause-walked
