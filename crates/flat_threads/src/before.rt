@@ -69,12 +69,13 @@ pub(crate) fn first_stop(program: &Program, ctx: &Context, most: u32) -> Option<
     requires { IsStageIf program.now ctx.now.stage }
     ensures { (stage : Stage Spot) → ctx.now.stage ≡ Some stage → result ≡ steps.first_stop program.now most stage }
 {
-    match ctx.phase {
+    let parts = &*ctx.parts;
+    match parts.phase {
         Phase::Away | Phase::Going => None,
         Phase::Starts(function, _) => {
             no_room_unless(is_small(&program.funcs[function as usize]))
         }
-        Phase::Waiting | Phase::Landed => stop_before(program, &ctx.calls, most),
+        Phase::Waiting | Phase::Landed => stop_before(program, &parts.calls, most),
     }
 }
 

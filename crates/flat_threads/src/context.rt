@@ -25,6 +25,13 @@ use struct_ir::{Place, StepNode};
 /// A thread's context: its number, how far it is, and its calls, in memory that is reserved once.
 #[derive(Drop)]
 pub struct Context {
+    // In a box, since a context goes from hand to hand by value.
+    pub(crate) parts: Box<Parts>,
+}
+
+/// What a context has.
+#[derive(Drop)]
+pub(crate) struct Parts {
     pub(crate) number: u32,
     pub(crate) phase: Phase,
     pub(crate) calls: Calls,
@@ -43,9 +50,9 @@ impl Model for Context {
 
     ghost Value = { ContextView };
 
-    ghost view = { λ c. record { number = c.number; stage = stage_of c.phase c.list.items c.calls; turns = c.turns; stop = c.stop; wait = c.wait } };
+    ghost view = { λ c. let p = c.parts.value in record { number = p.number; stage = stage_of p.phase p.list.items p.calls; turns = p.turns; stop = p.stop; wait = p.wait } };
 
-    ghost invariant = { λ c. IsListed c.number c.list.items × (1024 ≤ vec_capacity c.list) };
+    ghost invariant = { λ c. let p = c.parts.value in IsListed p.number p.list.items × (1024 ≤ vec_capacity p.list) };
 }
 
 impl Context {
@@ -56,7 +63,7 @@ impl Context {
     {
         let calls = Calls::none(alloc)?;
         let list = Vec::with_capacity(alloc, SLOTS as usize)?;
-        Ok(Context {
+        let parts = Parts {
             number,
             phase: Phase::Away,
             calls,
@@ -64,7 +71,9 @@ impl Context {
             turns: 0,
             stop: None,
             wait: None,
-        })
+        };
+        let parts = Box::new(alloc, parts)?;
+        Ok(Context { parts })
     }
 
     /// The number of its thread.
@@ -72,35 +81,35 @@ impl Context {
         ensures number { result ≡ self.now.number }
         ensures below { self.now.number < 64 }
     {
-        self.number
+        self.parts.number
     }
 
     /// The turns that the last call of `local` did.
     pub fn turns(&self) -> u32
         ensures { result ≡ self.now.turns }
     {
-        self.turns
+        self.parts.turns
     }
 
     /// What the thread waits for.
     pub fn waits_for(&self) -> Option<Wait>
         ensures { result ≡ self.now.wait }
     {
-        self.wait
+        self.parts.wait
     }
 
     /// Whether the thread waits at an allocation.
     pub fn wants_room(&self) -> bool
         ensures { IsTrue result ↔ (self.now.wait ≡ Some Wait.Room) }
     {
-        self.wait == Some(Wait::Room)
+        self.parts.wait == Some(Wait::Room)
     }
 
     /// Puts the first function of its thread before it, with the word of its argument.
     pub fn begin(&mut self, function: u32, argument: u64)
         ensures { self.new ≡ standing self.old (Some (starts function argument)) self.old.wait }
     {
-        self.phase = Phase::Starts(function, argument);
+        self.parts.phase = Phase::Starts(function, argument);
     }
 
     /// Why the last call of `local` stopped, if no step was taken since; the context then has no stop.
@@ -108,8 +117,8 @@ impl Context {
         ensures stop { result ≡ self.old.stop }
         ensures taken { self.new ≡ with_stop self.old None }
     {
-        let stop = self.stop;
-        self.stop = None;
+        let stop = self.parts.stop;
+        self.parts.stop = None;
         stop
     }
 
@@ -120,7 +129,7 @@ impl Context {
         ensures is { slice_get (instrs_of program.now.funcs (top_of self.now).at.function) (top_of self.now).at.index ≡ Some (instr_view result.now) }
         ensures small { (top_of self.now).at.index + 1 < 2 ^ 32 }
     {
-        self.calls.instr(program)
+        self.parts.calls.instr(program)
     }
 
     /// The word in a register of the call under way.
@@ -129,7 +138,7 @@ impl Context {
         requires temp { temp < length (top_of self.now).own.temps }
         ensures { result ≡ word_at (top_of self.now).own temp }
     {
-        self.calls.word(temp)
+        self.parts.calls.word(temp)
     }
 
     /// The word that the call under way gives: 0 where it has no value.
@@ -138,7 +147,7 @@ impl Context {
         requires temp { ForSome temp (λ r. r < length (top_of self.now).own.temps) }
         ensures { result ≡ given (top_of self.now).own temp }
     {
-        self.calls.given(temp)
+        self.parts.calls.given(temp)
     }
 
     /// Where a place of the call under way leads.
@@ -147,7 +156,7 @@ impl Context {
         requires place { IsPlaceOf (top_of self.now).own (place_view place.now) }
         ensures { target_view result ≡ target_of (top_of self.now).own (place_view place.now) }
     {
-        self.calls.target(place)
+        self.parts.calls.target(place)
     }
 
     /// Sets a slot of the call under way to a word and its address, and goes on behind the Look.
@@ -157,10 +166,10 @@ impl Context {
         requires index { (top_of self.old).at.index + 1 < 2 ^ 32 }
         ensures { self.new ≡ standing self.old (looked_stage self.old.stage slot word address) None }
     {
-        self.calls.set_slot(slot, word, address);
-        self.calls.go_on();
-        self.phase = Phase::Going;
-        self.wait = None;
+        self.parts.calls.set_slot(slot, word, address);
+        self.parts.calls.go_on();
+        self.parts.phase = Phase::Going;
+        self.parts.wait = None;
     }
 
     /// Goes on behind a step that gave a word or none: where that has a list, the thread has landed.
@@ -171,14 +180,14 @@ impl Context {
         requires index { (top_of self.old).at.index + 1 < 2 ^ 32 }
         ensures { self.new ≡ standing self.old (landed_stage (step_view node.now) self.old.stage word) None }
     {
-        self.calls.keeps_slots();
-        self.calls.put_given(node.to, word);
-        self.calls.go_on();
-        self.wait = None;
-        self.phase = Phase::Going;
+        self.parts.calls.keeps_slots();
+        self.parts.calls.put_given(node.to, word);
+        self.parts.calls.go_on();
+        self.parts.wait = None;
+        self.parts.phase = Phase::Going;
         if node.action.may_wait() {
-            self.phase = Phase::Landed;
-            keep_list(&mut self.list, node.slots.as_slice());
+            self.parts.phase = Phase::Landed;
+            keep_list(&mut self.parts.list, node.slots.as_slice());
         }
     }
 
@@ -187,16 +196,16 @@ impl Context {
         requires { IsInCall self.old.stage }
         ensures { self.new ≡ standing self.old (waiting_stage self.old.stage) (Some reason) }
     {
-        self.phase = Phase::Waiting;
-        self.wait = Some(reason);
+        self.parts.phase = Phase::Waiting;
+        self.parts.wait = Some(reason);
     }
 
     /// The thread has ended.
     pub fn end(&mut self)
         ensures { self.new ≡ standing self.old None None }
     {
-        self.phase = Phase::Away;
-        self.wait = None;
+        self.parts.phase = Phase::Away;
+        self.parts.wait = None;
     }
 }
 

@@ -21,15 +21,16 @@ impl Context {
         ensures pinned { into.new ≡ record into.old { words = into.old.words ++ handles_if (own_image program.now).flow self.now.stage } }
         ensures few { length into.new.words ≤ length into.old.words + 1024 }
     {
-        match self.phase {
+        let parts = &*self.parts;
+        match parts.phase {
             Phase::Away | Phase::Starts(_, _) => return,
-            Phase::Landed => self.calls.pin_top(&self.list, into),
+            Phase::Landed => parts.calls.pin_top(&parts.list, into),
             Phase::Going | Phase::Waiting => {
-                let list = list_at(program, &self.calls.top);
-                self.calls.pin_top(list, into);
+                let list = list_at(program, &parts.calls.top);
+                parts.calls.pin_top(list, into);
             }
         }
-        self.calls.pin_callers(program, into);
+        parts.calls.pin_callers(program, into);
     }
 }
 
