@@ -69,7 +69,7 @@ printf '%-10s %9s %7s %9s %7s %9s %7s %9s\n' shape seconds MB twice MB four MB e
 shape pointers "$pointers; $reads say(\"s+=*p\" k % most \";\")"
 shape rounds "$pointers; $reads say(\"while(s)s+=*p\" k % most \";\")"
 for depth in 60 120; do
-  shape "deep $depth" "$pointers; for (k = 0; k < $depth; k++) say(\"while(s){\"); $reads say(\"s+=*p\" k % most \";\"); for (k = 0; k < $depth; k++) print \"}\""
+  shape "deep $depth" "$pointers; for (k = 0; k < $depth; k++) say(\"while(s)\"); say(\"{\"); $reads say(\"s+=*p\" k % most \";\"); print \"}\""
 done
 shape few "for (most = 0; most < 250; most++) say(\"int*p\" most \"=p;\"); $reads say(\"s+=*p\" k % most \";\")"
 shape literals "$reads say(\"q=\\\"\" k \"\\\";\")"
