@@ -1,9 +1,9 @@
 -- Rows that get their lists from behind, all registers at once.
-use Rattle.std.proofs.Common.{◌≡◌, ◌%◌, nat_eq, ◌<◌, ◌≤◌, ◌+◌, ◌-◌, ℕ, zero, suc, List, [], ◌∷◌, ◌++◌, length, take, drop, get_or, set, take_all, drop_of_length-le, append-nil, append_assoc, Some, Result, IfOk, Bool, true, false, ◌||◌, ◌&&◌, refl, sym, ap, subst, ◌∙◌, arith}
+use Rattle.std.proofs.Common.{◌≡◌, ◌%◌, nat_eq, ◌<◌, ◌≤◌, ◌+◌, ℕ, zero, suc, List, [], ◌∷◌, ◌++◌, length, take, drop, get_or, set, take_all, drop_of_length-le, append-nil, append_assoc, Some, Result, IfOk, Bool, true, false, ◌||◌, ◌&&◌, refl, sym, ap, subst, ◌∙◌, arith}
 use Rattle.std.specs.Prelude.{not}
 use Rattle.std.specs.Global.{Vec}
 use Rattle.std.proofs.lemmas.Result.{IfOk-weaker}
-use Rattle.std.proofs.lemmas.List.{take_more, at_drop_more, length-take-le, drop_all}
+use Rattle.std.proofs.lemmas.List.{take_more, at_drop_more, length-take-le}
 use Rattle.std.proofs.lemmas.Nat.Bits.{bit_at-zero}
 use Rattle.struct_ir.specs.declared.code.Node.{Node as CodeNode}
 use Rattle.struct_ir.specs.declared.code.NodeKind.{NodeKind}
@@ -12,7 +12,7 @@ use Rattle.struct_ir.specs.Nodes.{Node, plain, if_, loop, break_, next_, ret, No
 use Rattle.struct_ir.specs.Structured.{row_size, node_size}
 use Rattle.struct_ir.specs.Views.{kind_view, node_view, nodes_view}
 use Rattle.struct_ir.proofs.Views.{if_is, if_view, loop_is, loop_view}
-use Rattle.pin_flow.specs.Slots.{slot_if, slot_in, IsIn}
+use Rattle.pin_flow.specs.Slots.{slot_if, slot_in}
 use Rattle.pin_flow.specs.Views.{act_is, looks_slot}
 use Rattle.pin_flow.specs.Live.{uses, Live, lives, live, live_node, head_live, latch_live, body_lives, latch_lives}
 use Rattle.pin_flow.proofs.FlowRows.{is_plain}
@@ -21,7 +21,7 @@ use Rattle.mark_sets.specs.Words.{has}
 use Rattle.pin_frames.specs.declared.together.Walked.{Walked}
 use Rattle.pin_frames.specs.inner.Place.{rest_lives, listed, none_held, none_later}
 use Rattle.pin_frames.specs.inner.Together.{Tells, lives_in, slots_for, used_listed, used_listed_in, node_listing, node_keeps, Kept, KeptIn, AreKept, AreKeptIn}
-use Rattle.pin_frames.proofs.LiveRows.{live_start, live_more, live_act_at}
+use Rattle.pin_frames.proofs.LiveRows.{live_start, live_act_at}
 use Rattle.pin_frames.proofs.Kept.{used_same, in_same, listed_used}
 
 -- an empty set has no numbers

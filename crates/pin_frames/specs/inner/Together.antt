@@ -1,11 +1,11 @@
 -- All slots at once: sets of slots, and lists of those that are used later.
-use Rattle.std.specs.Prelude.{◌≡◌, ◌<◌, ◌^◌, not, ℕ, zero, suc, List, [], ◌∷◌, length, Option, Some, None, Bool, true, false, ◌||◌, ◌&&◌, if◌then◌else◌}
+use Rattle.std.specs.Prelude.{◌≡◌, ◌<◌, ◌^◌, not, ℕ, zero, suc, List, [], ◌∷◌, length, Some, Bool, true, ◌||◌, ◌&&◌, if◌then◌else◌}
 use Rattle.struct_ir.specs.Nodes.{Act, Node, plain, if_, loop, break_, next_, ret, Nodes, no_nodes, more_nodes}
 use Rattle.pin_flow.specs.declared.mark.Mark.TheVariants as kinds
 use Rattle.pin_flow.specs.Looks.{act_looks, act_assigns, looks_into}
-use Rattle.pin_flow.specs.Slots.{slot_if, slot_in, IsIn}
+use Rattle.pin_flow.specs.Slots.{slot_if, IsIn}
 use Rattle.pin_flow.specs.Views.{looks_at, looks_slot, assigns_at}
-use Rattle.pin_flow.specs.Live.{Live, lives, live_act, live, live_node, body_lives, latch_lives}
+use Rattle.pin_flow.specs.Live.{Live, lives, live_act, live, body_lives, latch_lives}
 use Rattle.mark_sets.specs.Views.{bit_of}
 use Rattle.mark_sets.specs.Words.{has}
 use Rattle.pin_frames.specs.declared.used.Homes.{Homes}

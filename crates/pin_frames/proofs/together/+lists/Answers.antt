@@ -1,5 +1,4 @@
-use Rattle.std.proofs.Common.{◌≡◌, ◌<◌, ◌+◌, ◌-◌, ℕ, Some, [], ◌∷◌, ◌||◌, ◌&&◌, length, drop, get_or, true, inl, inr, refl, sym, ap, subst, ◌∙◌, arith, rules}
-use Rattle.std.specs.Prelude.{not}
+use Rattle.std.proofs.Common.{◌≡◌, ◌<◌, ◌+◌, ◌-◌, ℕ, [], ◌∷◌, length, drop, get_or, true, inl, inr, refl, sym, ap, subst, ◌∙◌, arith, rules}
 use Rattle.std.specs.Global.{Vec}
 use Rattle.std.specs.Vec.{with_items}
 use Rattle.std.proofs.lemmas.Bool.{and_parts}
@@ -9,7 +8,7 @@ use Rattle.struct_ir.specs.declared.code.NodeKind.TheViews as views
 use Rattle.struct_ir.proofs.Views.{loop_is}
 use Rattle.struct_ir.specs.Views.{kind_view, node_view, nodes_view}
 use Rattle.pin_flow.specs.Live.{Live, live, live_node, head_live}
-use Rattle.pin_flow.specs.Slots.{slot_if, slot_in}
+use Rattle.pin_flow.specs.Slots.{slot_in}
 use Rattle.pin_flow.proofs.FlowRows.{is_plain, plain_of}
 use Rattle.pin_flow.proofs.InPlace.{temp_of_if, row_within}
 use Rattle.mark_sets.specs.Words.{has}

@@ -1,4 +1,4 @@
-use Rattle.std.proofs.Common.{◌≡◌, sym, ap, ◌∙◌, arith, ◌||◌, ◌&&◌, length}
+use Rattle.std.proofs.Common.{◌≡◌, ap, ◌∙◌, arith, ◌||◌, ◌&&◌, length}
 use Rattle.std.specs.Prelude.{not}
 use Rattle.struct_ir.specs.Views.{node_view}
 use Rattle.pin_flow.specs.Live.{uses}

@@ -1,4 +1,4 @@
-use Rattle.std.proofs.Common.{◌++◌, ap, ◌∙◌, arith, ◌≡◌}
+use Rattle.std.proofs.Common.{◌++◌, ap, ◌∙◌, arith}
 use Rattle.std.specs.Prelude.{ℕ, ◌-◌}
 use Rattle.std.specs.Global.{Vec}
 use Rattle.mark_sets.specs.Words.{has}

@@ -2,7 +2,7 @@ use Rattle.std.proofs.Common.{◌≡◌, true, inl, inr, sym, ap, [], ◌∷◌,
 use Rattle.std.proofs.lemmas.Result.{IfOk-weaker}
 use Rattle.struct_ir.specs.Views.{kind_view, node_view, nodes_view}
 use Rattle.std.specs.Prelude.{◌||◌, ◌&&◌, not}
-use Rattle.pin_flow.specs.Live.{uses, lives, live, live_node, head_live}
+use Rattle.pin_flow.specs.Live.{uses, live, live_node, head_live}
 use Rattle.pin_flow.specs.Views.{act_is, looks_slot}
 use Rattle.pin_flow.proofs.FlowRows.{is_plain, plain_of}
 use Rattle.mark_sets.specs.Words.{has}
