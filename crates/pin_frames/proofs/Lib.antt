@@ -3,6 +3,7 @@ pub mod Due
 pub mod Exact
 pub mod FreeRows
 pub mod Hoists
+pub mod Kept
 pub mod ListRows
 pub mod Listed
 pub mod Lists
@@ -14,5 +15,7 @@ pub mod Points
 pub mod Programs
 pub mod Seat
 pub mod Seated
+pub mod SlotSets
 pub mod Stand
+pub mod TogetherRows
 pub mod Valid

@@ -12,13 +12,10 @@ use Rattle.pin_flow.specs.Slots.{accesses, bases_below, IsIn, AreApart}
 use Rattle.pin_flow.proofs.Registers.{in_parts, base_below}
 use Rattle.pin_flow.proofs.Strip.{by_bool}
 use Rattle.pin_frames.specs.inner.Place.{stop, act_seats, seats, seated, seated_in, wanted, act_listing, list_for, heads, turns, on_states, rest_lives, listed, listed_in}
+use Rattle.pin_frames.specs.inner.Together.{AreOnce}
 use Rattle.pin_frames.proofs.Exact.{list_only}
 
 -- ---- each base stands once among the bases
-
-abbrev pub AreOnce : List ℕ → Type 0
-AreOnce [] = Unit {0}
-AreOnce (b ∷ bs) = (IsIn bs b → ⊥) × AreOnce bs
 
 once_more : (bs : List ℕ) (c : ℕ) → AreOnce bs → (IsIn bs c → ⊥) → AreOnce (bs ++ (c ∷ []))
 once_more [] c o h = ((λ i. i), tt)

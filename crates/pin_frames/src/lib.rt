@@ -8,6 +8,8 @@ pub mod listing;
 pub mod lives;
 pub mod placing;
 pub mod seating;
+mod together;
 mod unlisted;
+mod used;
 
 pub use placing::{place, place_owned};

@@ -1,6 +1,6 @@
 //! Programs with their safepoints and lists.
 
-ghost use Rattle.std.specs.Prelude.{◌≡◌, ◌<◌, ◌^◌, length, map, None, true, false, IfOk};
+ghost use Rattle.std.specs.Prelude.{◌≡◌, ◌<◌, ◌^◌, length, map, None, true, false, IfOk, IfSome};
 ghost use Rattle.std.specs.List.{list_all};
 ghost use Rattle.struct_ir.specs.Erased.{ir_erased};
 ghost use Rattle.struct_ir.specs.Nodes.{no_nodes};
@@ -12,15 +12,20 @@ ghost use Rattle.pin_flow.specs.Marks.{bad};
 ghost use Rattle.pin_flow.specs.Live.{lives};
 ghost use Rattle.struct_ir.specs.Safe.{EveryFunc, IsPinSafe};
 ghost use Rattle.pin_flow.specs.Funcs.{IsCovered, IsExact, IsExactAtPoints, IsHoisted, IsHoistedAtPoints, IsHoistedThroughout};
-ghost use Rattle.pin_flow.specs.Slots.{HasOwnSlots, slot_if};
-ghost use Rattle.pin_frames.specs.inner.Place.{seated, cleared, listed_one, listed_for, listed_each, func_placed, ir_placed};
+ghost use Rattle.pin_flow.specs.Slots.{HasOwnSlots, slot_if, slot_in};
+ghost use Rattle.pin_frames.specs.inner.Place.{seated, cleared, listed, none_held, none_later, listed_one, listed_for, listed_each, func_placed, ir_placed};
+ghost use Rattle.pin_frames.specs.inner.Together.{AreOnce, AreHomes};
 
 use crate::listing::list_row;
 use crate::lives::lives_of;
 use crate::seating::seat_row;
+use crate::together::{is_empty, list_row as list_all};
 use crate::unlisted::free_row;
+use crate::used::Homes;
 use ak_words::NoMemory;
+use mark_sets::marks::held_marks;
 use pin_flow::programs::copy_ir;
+use pin_flow::rows::copy_row;
 use pin_flow::slots::{bases_of, slot_of};
 use pin_flow::state::State;
 use std::alloc::Global;
@@ -101,7 +106,7 @@ fn place_func(alloc: Global, f: IrFunc) -> Result<IrFunc, NoMemory>
     ensures { IfOk result (λ x. func_view x ≡ func_placed (func_view f)) }
 {
     let bases = bases_of(alloc, &f)?;
-    let nodes = list_bases(alloc, &bases, f.nodes)?;
+    let nodes = list_bases(alloc, bases, f.nodes)?;
     Ok(IrFunc {
         params: f.params,
         temps: f.temps,
@@ -111,11 +116,41 @@ fn place_func(alloc: Global, f: IrFunc) -> Result<IrFunc, NoMemory>
     })
 }
 
-fn list_bases(alloc: Global, bases: &[u32], rows: Vec<Node>) -> Result<Vec<Node>, NoMemory>
-    requires { length bases.now < 2 ^ 32 }
-    ensures { IfOk result (λ v. nodes_view v.items ≡ listed_each (slot_if bases.now) bases.now (seated (cleared (nodes_view rows.items)) no_nodes)) }
+// All registers at once where that serves, and else one after the other.
+fn list_bases(alloc: Global, bases: Vec<u32>, rows: Vec<Node>) -> Result<Vec<Node>, NoMemory>
+    requires few { length bases.items < 2 ^ 32 }
+    requires once { AreOnce bases.items }
+    ensures { IfOk result (λ v. nodes_view v.items ≡ listed_each (slot_if bases.items) bases.items (seated (cleared (nodes_view rows.items)) no_nodes)) }
 {
-    let mut code = seat_row(alloc, rows)?;
+    let code = seat_row(alloc, rows)?;
+    let marks = held_marks(alloc, &bases)?;
+    let homes = Homes { bases, marks };
+    match list_together(alloc, &homes, &code)? {
+        Some(done) => Ok(done),
+        None => list_in_turn(alloc, &homes.bases, code),
+    }
+}
+
+// None where some act doesn't keep what is used behind it, or something is used before its Look.
+fn list_together(alloc: Global, homes: &Homes, code: &[Node]) -> Result<Option<Vec<Node>>, NoMemory>
+    requires { AreHomes homes.now }
+    ensures { IfOk result (λ o. IfSome o (λ v. nodes_view v.items ≡ listed (slot_in homes.now.bases.items) homes.now.bases.items (nodes_view code.now) none_held none_later)) }
+{
+    let mut rows = copy_row(alloc, code)?;
+    let none = Vec::new(alloc);
+    let walked = list_all(alloc, homes, &mut rows, Vec::new(alloc), &none, &none)?;
+    if walked.kept && is_empty(&walked.on) {
+        Ok(Some(rows))
+    } else {
+        Ok(None)
+    }
+}
+
+fn list_in_turn(alloc: Global, bases: &[u32], rows: Vec<Node>) -> Result<Vec<Node>, NoMemory>
+    requires { length bases.now < 2 ^ 32 }
+    ensures { IfOk result (λ v. nodes_view v.items ≡ listed_each (slot_if bases.now) bases.now (nodes_view rows.items)) }
+{
+    let mut code = rows;
     for b in bases {
         code = list_base(alloc, bases, *b, code)?;
     }

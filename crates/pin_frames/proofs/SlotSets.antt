@@ -1,0 +1,134 @@
+-- Registers and their slots, and the numbers in sets of slots.
+use Rattle.std.proofs.Common.{◌≡◌, ◌≢◌, ◌<◌, ◌≤◌, ◌+◌, ◌-◌, ◌/◌, ◌%◌, nat_eq, ℕ, zero, suc, List, [], ◌∷◌, ◌++◌, length, get_or, drop, map, Option, Some, None, Bool, true, false, ◌==◌, ◌||◌, ◌&&◌, if◌then◌else◌, append_assoc, inl, inr, refl, sym, ap, subst, ◌∙◌, arith}
+use Rattle.std.specs.Prelude.{not}
+use Rattle.std.proofs.lemmas.Bool.{eqb-true, eq-eqb, ne_eqb, cases_eq, cases_lt}
+use Rattle.std.proofs.lemmas.Nat.Bits.{bit_at-zero}
+use Rattle.std.specs.Int.{bit_at}
+use Rattle.std.proofs.lemmas.List.{at_drop_more}
+use Rattle.struct_ir.specs.declared.code.Place.{Place as CodePlace}
+use Rattle.struct_ir.specs.Views.{place_view}
+use Rattle.pin_flow.specs.Slots.{slot_if, slot_in, one_more, IsIn}
+use Rattle.pin_flow.specs.Live.{is_slot, has as has_use}
+use Rattle.pin_flow.proofs.Strip.{by_bool}
+use Rattle.pin_flow.proofs.Bases.{slot_known}
+use Rattle.mark_sets.specs.Words.{has}
+use Rattle.pin_frames.specs.declared.used.Homes.{Homes}
+use Rattle.pin_frames.specs.inner.Together.{AreOnce, IsHome, AreHomes, Tells, numbers, slots_for}
+use Rattle.pin_frames.proofs.Kept.{slots_same}
+
+pub home_of : {x : Homes} → AreHomes x → IsHome x
+unfolding AreHomes
+home_of h = h
+
+more_some : (o : Option ℕ) (i : ℕ) → one_more o ≡ Some i → (j : ℕ) × (o ≡ Some j) × (i ≡ suc j)
+more_some None i e = absurd cc
+more_some (Some j) i e = (j, refl, cc)
+
+-- a register's slot is its place among them
+pub slot_found : (bs : List ℕ) (c s d : ℕ) → slot_if bs c ≡ Some s → (s < length bs) × (get_or bs s d ≡ c)
+slot_found [] c s d e = absurd cc
+slot_found (x ∷ rest) c s d e =
+    by_bool (λ t. (if t then Some 0 else one_more (slot_if rest c)) ≡ Some s → (s < length (x ∷ rest)) × (get_or (x ∷ rest) s d ≡ c)) (c == x)
+    (λ g f. let z : 0 ≡ s = cc in subst (λ y. (y < length (x ∷ rest)) × (get_or (x ∷ rest) y d ≡ c)) z (omega arith, sym (eqb-true c x g)))
+    (λ g f.
+    let m = more_some (slot_if rest c) s f in
+    let r = slot_found rest c m.0 d m.1 in
+    let lt : suc m.0 < length (x ∷ rest) = (let w = r.0 in omega (arith, w)) in
+    subst (λ y. (y < length (x ∷ rest)) × (get_or (x ∷ rest) y d ≡ c)) (sym m.2) (lt, r.1)) e
+
+-- ---- the numbers in a set
+
+in_at : (bs : List ℕ) (k : ℕ) → k < length bs → IsIn bs (get_or bs k 0)
+in_at [] k h = absurd (omega arith)
+in_at (c ∷ rest) zero h = inl refl
+in_at (c ∷ rest) (suc k) h = inr (in_at rest k (omega arith))
+
+slot_at : (bs : List ℕ) → AreOnce bs → (k : ℕ) → k < length bs → slot_in bs (get_or bs k 0) ≡ k
+slot_at [] o k h = absurd (omega arith)
+slot_at (c ∷ rest) o zero h = ap (λ t. if t then 0 else suc (slot_in rest c)) (eq-eqb c c refl)
+slot_at (c ∷ rest) o (suc k) h =
+    let b = get_or rest k 0 in
+    let i : IsIn rest b = in_at rest k (omega arith) in
+    let ne : b ≢ c = λ e. o.0 (subst (λ y. IsIn rest y) e i) in
+    ap (λ t. if t then 0 else suc (slot_in rest b)) (ne_eqb b c ne) ∙ ap suc (slot_at rest o.1 k (omega arith))
+
+for_numbers : (s : ℕ → ℕ) (g : ℕ → Bool) (todo : List ℕ) (i : ℕ) → ((k : ℕ) → k < length todo → s (get_or todo k 0) ≡ i + k) → slots_for s todo (λ b. g (s b)) ≡ numbers g i (length todo)
+for_numbers s g [] i h = refl
+for_numbers s g (b ∷ todo) i h =
+    let e : s b ≡ i = (let w = h 0 (omega arith) in omega (arith, w)) in
+    let r = for_numbers s g todo (suc i) (λ k lt. let w = h (suc k) (omega arith) in omega (arith, w)) in
+    λ j. if g (e j) then e j ∷ r j else r j
+
+-- the slots of registers that stand once each, of those in a set, are the numbers in it
+pub numbers_are : (bs : List ℕ) (set : List ℕ) (used : ℕ → ℕ → Bool) → AreOnce bs → Tells bs set used → numbers (has set) 0 (length bs) ≡ slots_for (slot_in bs) bs (λ b. used (slot_in bs b) b)
+numbers_are bs set used o t =
+    sym (for_numbers (slot_in bs) (has set) bs 0 (λ k lt. slot_at bs o k lt ∙ (let z : k ≡ 0 + k = omega arith in z)))
+    ∙ slots_same (slot_in bs) (λ b. has set (slot_in bs b)) (λ b. used (slot_in bs b) b) bs (λ b j. t b (slot_in bs b) (slot_known bs b j))
+
+-- one number less is left
+pub numbers_step : (f : ℕ → Bool) (i n : ℕ) → i < n → numbers f i (n - i) ≡ (if f i then i ∷ numbers f (i + 1) (n - (i + 1)) else numbers f (i + 1) (n - (i + 1)))
+numbers_step f i n lt =
+    let e : n - i ≡ suc (n - (i + 1)) = omega arith in
+    let s : suc i ≡ i + 1 = omega arith in
+    ap (numbers f i) e ∙ (λ j. if f i then i ∷ numbers f (s j) (n - (i + 1)) else numbers f (s j) (n - (i + 1)))
+
+pub number_in : (f : ℕ → Bool) (i n : ℕ) (y : Bool) (out out' all : List ℕ) → i < n → y ≡ f i → y ≡ true → out' ≡ out ++ (i ∷ []) → out ++ numbers f i (n - i) ≡ all → out' ++ numbers f (i + 1) (n - (i + 1)) ≡ all
+number_in f i n y out out' all lt e t o inv =
+    let r = numbers f (i + 1) (n - (i + 1)) in
+    let here : numbers f i (n - i) ≡ i ∷ r = numbers_step f i n lt ∙ ap (λ b. if b then i ∷ r else r) (sym e ∙ t) in
+    ap (λ l. l ++ r) o ∙ (append_assoc out (i ∷ []) r ∙ (ap (λ l. out ++ l) (sym here) ∙ inv))
+
+pub number_out : (f : ℕ → Bool) (i n : ℕ) (y : Bool) (out all : List ℕ) → i < n → y ≡ f i → y ≡ false → out ++ numbers f i (n - i) ≡ all → out ++ numbers f (i + 1) (n - (i + 1)) ≡ all
+number_out f i n y out all lt e t inv =
+    let r = numbers f (i + 1) (n - (i + 1)) in
+    let here : numbers f i (n - i) ≡ r = numbers_step f i n lt ∙ ap (λ b. if b then i ∷ r else r) (sym e ∙ t) in
+    ap (λ l. out ++ l) (sym here) ∙ inv
+
+-- ---- accesses
+
+or_turn : (p r s : Bool) → (r || (p || s)) ≡ ((p || r) || s)
+or_turn true true s = refl
+or_turn true false s = refl
+or_turn false true s = refl
+or_turn false false s = refl
+
+-- one access more
+pub use_more : (slot b : ℕ) (places : List CodePlace) (k : ℕ) (d : CodePlace) (old new : Bool) (all : Bool) → k < length places
+    → (has_use slot b (map place_view (drop k places)) || old) ≡ all → new ≡ ((((place_view (get_or places k d)).base == b) && is_slot slot (place_view (get_or places k d)).slot) || old)
+    → (has_use slot b (map place_view (drop (k + 1) places)) || new) ≡ all
+use_more slot b places k d old new all lt inv e =
+    let a = place_view (get_or places k d) in
+    let p = (a.base == b) && is_slot slot a.slot in
+    let r = has_use slot b (map place_view (drop (k + 1) places)) in
+    let at : drop k places ≡ get_or places k d ∷ drop (k + 1) places = at_drop_more (λ z. z) places k d lt in
+    ap (λ y. r || y) e ∙ (or_turn p r old ∙ (ap (λ l. has_use slot b (map place_view l) || old) (sym at) ∙ inv))
+
+-- ---- registers that are not in a set
+
+pub unused_some : (bs set : List ℕ) (b j d i : ℕ) (y : Bool) → slot_if bs b ≡ Some j → y ≡ has set j → not y ≡ true → slot_if bs d ≡ Some i → has set i ≡ true → (d == b) ≡ false
+unused_some bs set b j d i y f yj r e h = elim (cases_eq d b) [
+  | inl g ↦ (let s : Some i ≡ Some j = sym e ∙ (ap (slot_if bs) g ∙ f) in
+      let k : i ≡ j = cc in
+      let t : y ≡ true = yj ∙ (ap (has set) (sym k) ∙ h) in
+      absurd (let z : false ≡ true = ap not (sym t) ∙ r in cc))
+  | inr ne ↦ ne_eqb d b ne
+]
+
+pub unused_none : (bs : List ℕ) (b d i : ℕ) → slot_if bs b ≡ None → slot_if bs d ≡ Some i → (d == b) ≡ false
+unused_none bs b d i f e = elim (cases_eq d b) [
+  | inl g ↦ (let s : Some i ≡ None = sym e ∙ (ap (slot_if bs) g ∙ f) in absurd cc)
+  | inr ne ↦ ne_eqb d b ne
+]
+
+-- ---- no words
+
+beyond : (xs : List ℕ) (k : ℕ) → length xs ≤ k → get_or xs k 0 ≡ 0
+beyond [] k h = refl
+beyond (x ∷ xs) zero h = absurd (omega arith)
+beyond (x ∷ xs) (suc k) h = beyond xs k (omega arith)
+
+pub none_in : (set : List ℕ) (n : ℕ) → ((k : ℕ) → k < n → get_or set k 0 ≡ 0) → length set ≤ n → (i : ℕ) → has set i ≡ false
+unfolding has
+none_in set n h le i =
+    let z : get_or set (i / 64) 0 ≡ 0 = elim (cases_lt (i / 64) n) [ inl lt ↦ h (i / 64) lt | inr ge ↦ beyond set (i / 64) (omega arith) ] in
+    ap (λ w. nat_eq (bit_at w (i % 64)) 1) z ∙ ap (λ x. nat_eq x 1) (bit_at-zero (i % 64))

@@ -1,0 +1,302 @@
+use Rattle.std.proofs.Common.{◌≡◌, ◌<◌, ◌+◌, ◌-◌, ℕ, [], ◌∷◌, length, drop, get_or, true, inl, inr, refl, sym, ap, subst, ◌∙◌, arith, rules}
+use Rattle.std.specs.Global.{Vec}
+use Rattle.std.specs.Vec.{with_items}
+use Rattle.std.proofs.lemmas.Bool.{and_parts}
+use Rattle.struct_ir.specs.Structured.{row_size, node_size}
+use Rattle.struct_ir.specs.declared.code.Node.{Node as CodeNode}
+use Rattle.struct_ir.specs.declared.code.NodeKind.TheViews as views
+use Rattle.struct_ir.proofs.Views.{loop_is}
+use Rattle.struct_ir.specs.Views.{kind_view, node_view, nodes_view}
+use Rattle.pin_flow.specs.Live.{Live, live, live_node, head_live}
+use Rattle.pin_flow.specs.Slots.{slot_in}
+use Rattle.pin_flow.proofs.FlowRows.{is_plain, plain_of}
+use Rattle.pin_flow.proofs.InPlace.{temp_of_if, row_within}
+use Rattle.mark_sets.specs.Words.{has}
+use Rattle.pin_frames.specs.inner.Together.{Tells, lives_in, used_listed, used_listed_in, AreKept, AreKeptIn}
+use Rattle.pin_frames.proofs.Backwards.{if_size, loop_size}
+use Rattle.pin_frames.proofs.LiveRows.{live_more, live_if, live_head}
+use Rattle.pin_frames.proofs.TogetherRows.{has_nothing, same_item, put_item, rest_is, size_at, start_rows, start_made, start_used, start_kept, node_more, kept_more, if_done, if_kept, loop_done, loop_kept, act_told, act_keeps, way_kept, kept_at}
+use Rattle.pin_frames.proofs.together.+lists.Goals as goal
+
+-- ---- rows
+
+pub list_row-row-init : goal.list_row-row-init
+list_row-row-init t c =
+    let bs = c.args.homes.now.bases.items in
+    let all = c.args.rows.now in
+    record {
+      few = omega arith;
+      made = ([], start_rows bs c.args.on.items c.args.out.now c.args.end.now all (length all) (omega arith), start_made bs c.args.on.items c.args.out.now c.args.end.now all (length all) (omega arith));
+      used = start_used bs c.args.on.items c.args.out.now c.args.end.now all (length all) (omega arith);
+      kept = λ g. start_kept bs c.args.on.items c.args.out.now c.args.end.now all (length all) (omega arith);
+    }
+
+pub list_row-list_node-requires : goal.list_row-list_node-requires
+list_row-list_node-requires t c =
+    let all = c.args.rows.now in
+    let xs = c.row.rows in
+    let k = c.row.left - 1 in
+    let x = c.index-rows-left.result in
+    let m = c.row.invariant.made in
+    let next : c.row.left ≡ k + 1 = omega arith in
+    let here : x ≡ get_or all k x = same_item all xs m.0 k c.row.left next c.row.invariant.few m.1 x c.index-rows-left.is in
+    let lt : k < length all = (let f = c.row.invariant.few in omega (arith, f)) in
+    let h : node_size (node_view (get_or xs k x)) < row_size (nodes_view all) = subst (λ z. node_size (node_view z) < row_size (nodes_view all)) c.index-rows-left.is (size_at all k x lt here) in
+    (omega (arith, h), c.requires)
+
+pub list_row-row-preserved : goal.list_row-row-preserved
+list_row-row-preserved t c =
+    let bs = c.args.homes.now.bases.items in
+    let on = c.args.on.items in
+    let out = c.args.out.now in
+    let end = c.args.end.now in
+    let set = c.row.set.items in
+    let all = c.args.rows.now in
+    let xs = c.row.rows in
+    let k = c.row.left - 1 in
+    let x = c.index-rows-left.result in
+    let y = c.list_node.new.n in
+    let rest = drop c.row.left all in
+    let m = c.row.invariant.made in
+    let used = c.row.invariant.used in
+    let next : c.row.left ≡ k + 1 = omega arith in
+    let here : x ≡ get_or all k x = same_item all xs m.0 k c.row.left next c.row.invariant.few m.1 x c.index-rows-left.is in
+    let cut : drop k all ≡ x ∷ rest = rest_is all k c.row.left x next c.row.invariant.few here in
+    let old : get_or xs k x ≡ x = sym c.index-rows-left.is in
+    record {
+      few = (let f = c.row.invariant.few in omega (arith, f));
+      made = (
+        y ∷ m.0,
+        put_item all xs m.0 k c.row.left next c.row.invariant.few m.1 y,
+        node_more bs on set out end (nodes_view rest) used (node_view x) (node_view y) (nodes_view m.0)
+            (c.in_ok-node.ensures.node ∙ ap (λ z. used_listed_in (slot_in bs) bs (node_view z) (λ b. lives_in set out end (slot_in bs b))) old) m.2
+            ∙ ap (λ l. used_listed (slot_in bs) bs (nodes_view l) (λ b. lives_in on out end (slot_in bs b))) (sym cut),
+      );
+      used = λ b i e.
+          live_more i b x rest (lives_in on out end i) (has set i) (has c.in_ok-node.node.on.items i) (lives_in set out end i) (used b i e) refl
+          (c.in_ok-node.ensures.used b i e ∙ ap (λ z. live_node i b (node_view z) (lives_in set out end i)) old)
+          ∙ ap (λ l. live i b (nodes_view l) (lives_in on out end i)) (sym cut);
+      kept = λ g.
+          let p = and_parts c.in_ok-node.node.kept c.row.kept (sym c.both-kept.ensures ∙ g) in
+          subst (λ l. AreKept bs (nodes_view l) on out end) (sym cut)
+          (kept_more bs on set out end (nodes_view rest) used (node_view x) (subst (λ z. AreKeptIn bs (node_view z) set out end) old (c.in_ok-node.ensures.kept p.0)) (c.row.invariant.kept p.1));
+    }
+
+-- ---- branches
+
+pub list_node-list_row-requires : goal.list_node-list_row-requires
+list_node-list_row-requires t c =
+    let e = if_size c.args.n.now c.in-If.field-0 c.in-If.one c.in-If.other c.in-If.is in
+    let d = c.deref_mut.ensures.value ∙ ap (λ (u : Vec CodeNode). u.items) c.in-If.one-is in
+    rw d (omega (arith, e), c.requires)
+
+pub list_node-list_row-requires-in-If : goal.list_node-list_row-requires-in-If
+list_node-list_row-requires-in-If t c =
+    let e = if_size c.args.n.now c.in-If.field-0 c.in-If.one c.in-If.other c.in-If.is in
+    let d = c.deref_mut-in-If.ensures.value ∙ ap (λ (u : Vec CodeNode). u.items) c.in-If.other-is in
+    rw d (omega (arith, e), c.requires)
+
+pub list_node-returns-in_ok-second-in-If-clause-used : goal.list_node-returns-in_ok-second-in-If-clause-used
+list_node-returns-in_ok-second-in-If-clause-used t c =
+    let out = c.args.out.now in
+    let end = c.args.end.now in
+    let again : c.in_ok-start-in-If.start.items ≡ c.args.on.items = search rules in
+    let d0 = c.deref_mut.ensures.value ∙ ap (λ (u : Vec CodeNode). u.items) c.in-If.one-is in
+    let d1 = c.deref_mut-in-If.ensures.value ∙ ap (λ (u : Vec CodeNode). u.items) c.in-If.other-is in
+    λ b i e.
+    live_if i b c.args.n.now c.in-If.field-0 c.in-If.one c.in-If.other (lives_in c.args.on.items out end i) (has c.in_ok-first-in-If.first.on.items i) (has c.in_ok-second-in-If.second.on.items i) (has c.united.result.items i)
+    c.in-If.is
+    (c.in_ok-first-in-If.ensures.used b i e ∙ (λ j. live i b (nodes_view (d0 j)) (lives_in (again j) out end i)))
+    (c.in_ok-second-in-If.ensures.used b i e ∙ ap (λ l. live i b (nodes_view l) (lives_in c.args.on.items out end i)) d1) (c.united.ensures i)
+
+pub list_node-returns-in_ok-second-in-If-clause-kept : goal.list_node-returns-in_ok-second-in-If-clause-kept
+list_node-returns-in_ok-second-in-If-clause-kept t c = λ g.
+    let bs = c.args.homes.now.bases.items in
+    let out = c.args.out.now in
+    let end = c.args.end.now in
+    let again : c.in_ok-start-in-If.start.items ≡ c.args.on.items = search rules in
+    let d0 = c.deref_mut.ensures.value ∙ ap (λ (u : Vec CodeNode). u.items) c.in-If.one-is in
+    let d1 = c.deref_mut-in-If.ensures.value ∙ ap (λ (u : Vec CodeNode). u.items) c.in-If.other-is in
+    let p = and_parts c.in_ok-first-in-If.first.kept c.in_ok-second-in-If.second.kept (sym c.both.ensures ∙ g) in
+    if_kept bs c.args.on.items c.in_ok-start-in-If.start.items out end c.args.n.now c.in-If.field-0 c.in-If.one c.in-If.other c.in-If.is again
+    (subst (λ l. AreKept bs (nodes_view l) c.in_ok-start-in-If.start.items out end) d0 (c.in_ok-first-in-If.ensures.kept p.0))
+    (subst (λ l. AreKept bs (nodes_view l) c.args.on.items out end) d1 (c.in_ok-second-in-If.ensures.kept p.1))
+
+pub list_node-returns-in_ok-second-in-If-clause-node : goal.list_node-returns-in_ok-second-in-If-clause-node
+list_node-returns-in_ok-second-in-If-clause-node t c =
+    let bs = c.args.homes.now.bases.items in
+    let s = slot_in bs in
+    let on = c.args.on.items in
+    let out = c.args.out.now in
+    let end = c.args.end.now in
+    let ls : ℕ → Live = λ b. lives_in on out end (slot_in bs b) in
+    let v = c.in-If.one in
+    let w = c.in-If.other in
+    let ys = c.list_row.new.rows in
+    let zs = c.list_row-in-If.new.rows in
+    let again : c.in_ok-start-in-If.start.items ≡ c.args.on.items = search rules in
+    let d0 : c.deref_mut.result.now ≡ v.items = c.deref_mut.ensures.value ∙ ap (λ (u : Vec CodeNode). u.items) c.in-If.one-is in
+    let d1 : c.deref_mut-in-If.result.now ≡ w.items = c.deref_mut-in-If.ensures.value ∙ ap (λ (u : Vec CodeNode). u.items) c.in-If.other-is in
+    temp_of_if c.args.n.now.place _ c.in-If.field-0 _ _ (search (rules, views.the_lemmas, c.in-If.is))
+    ∙ ((λ i. kind_view c.args.n.now.place (views.If c.in-If.field-0 (with_items (c.in-If.one-is i) ys) (with_items (c.in-If.other-is i) zs)))
+    ∙ if_done s bs ls c.args.n.now c.in-If.field-0 v w (with_items v ys) (with_items w zs) c.in-If.is
+    (row_within (λ r. used_listed s bs r ls) v c.deref_mut.result.now ys d0 (omega (arith, c.list_row.auto.rows, ap length d0, v.ok.0))
+    (c.in_ok-first-in-If.ensures.row ∙ ap (λ z. used_listed s bs (nodes_view c.deref_mut.result.now) (λ b. lives_in z out end (slot_in bs b))) again))
+    (row_within (λ r. used_listed s bs r ls) w c.deref_mut-in-If.result.now zs d1 (omega (arith, c.list_row-in-If.auto.rows, ap length d1, w.ok.0)) c.in_ok-second-in-If.ensures.row))
+
+-- ---- loops
+
+pub list_node-list_row-requires-in-Loop : goal.list_node-list_row-requires-in-Loop
+list_node-list_row-requires-in-Loop t c =
+    let e = loop_size c.args.n.now c.in-Loop.body c.in-Loop.step c.in-Loop.is in
+    let d = c.deref_mut-in-Loop.ensures.value ∙ ap (λ (u : Vec CodeNode). u.items) c.in-Loop.step-is in
+    rw d (omega (arith, e), c.requires)
+
+pub list_node-list_row-requires-in-Loop-2 : goal.list_node-list_row-requires-in-Loop-2
+list_node-list_row-requires-in-Loop-2 t c =
+    let e = loop_size c.args.n.now c.in-Loop.body c.in-Loop.step c.in-Loop.is in
+    let d = c.deref_mut-in-Loop-2.ensures.value ∙ ap (λ (u : Vec CodeNode). u.items) c.in-Loop.body-is in
+    rw d (omega (arith, e), c.requires)
+
+pub list_node-returns-in_ok-first-in-Loop-clause-used : goal.list_node-returns-in_ok-first-in-Loop-clause-used
+list_node-returns-in_ok-first-in-Loop-clause-used t c =
+    let a = c.deref-in-Loop.ensures.value ∙ ap (λ (u : Vec CodeNode). u.items) c.in-Loop.body-is in
+    let b' = c.deref-in-Loop-2.ensures.value ∙ ap (λ (u : Vec CodeNode). u.items) c.in-Loop.step-is in
+    let o = c.deref-in-Loop-3.ensures.value in
+    λ b i e. live_head i b c.args.n.now c.in-Loop.body c.in-Loop.step (lives_in c.args.on.items c.args.out.now c.args.end.now i) (has c.in_ok-head-in-Loop.head.items i) c.in-Loop.is
+    (c.in_ok-head-in-Loop.ensures b i e ∙ (λ j. head_live i b (nodes_view (a j)) (nodes_view (b' j)) (has (o j) i)))
+
+pub list_node-returns-in_ok-first-in-Loop-clause-kept : goal.list_node-returns-in_ok-first-in-Loop-clause-kept
+list_node-returns-in_ok-first-in-Loop-clause-kept t c = λ g.
+    let bs = c.args.homes.now.bases.items in
+    let on = c.args.on.items in
+    let head = c.in_ok-head-in-Loop.head.items in
+    let top = c.in_ok-top-in-Loop.top.items in
+    let latch = c.in_ok-latch-in-Loop.latch in
+    let last = c.in_ok-last-in-Loop.last.items in
+    let v = c.in-Loop.body in
+    let w = c.in-Loop.step in
+    let vb = ap (λ (u : Vec CodeNode). u.items) c.in-Loop.body-is in
+    let wb = ap (λ (u : Vec CodeNode). u.items) c.in-Loop.step-is in
+    let a : c.deref-in-Loop.result.now ≡ v.items = c.deref-in-Loop.ensures.value ∙ vb in
+    let d : c.deref-in-Loop-2.result.now ≡ w.items = c.deref-in-Loop-2.ensures.value ∙ wb in
+    let o : c.deref-in-Loop-3.result.now ≡ on = c.deref-in-Loop-3.ensures.value in
+    let mw : c.deref_mut-in-Loop.result.now ≡ w.items = c.deref_mut-in-Loop.ensures.value ∙ wb in
+    let mv : c.deref_mut-in-Loop-2.result.now ≡ v.items = c.deref_mut-in-Loop-2.ensures.value ∙ vb in
+    let o5 : c.deref-in-Loop-5.result.now ≡ on = c.deref-in-Loop-5.ensures.value in
+    let h6 : c.deref-in-Loop-6.result.now ≡ head = c.deref-in-Loop-6.ensures.value in
+    let o8 : c.deref-in-Loop-8.result.now ≡ on = c.deref-in-Loop-8.ensures.value in
+    let l9 : c.deref-in-Loop-9.result.now ≡ latch.on.items = c.deref-in-Loop-9.ensures.value in
+    let tops : top ≡ head = search rules in
+    let same : last ≡ latch.on.items = search rules in
+    let heads : Tells bs head (λ i b. head_live i b (nodes_view v.items) (nodes_view w.items) (has on i)) = λ b i e. c.in_ok-head-in-Loop.ensures b i e ∙ (λ j. head_live i b (nodes_view (a j)) (nodes_view (d j)) (has (o j) i)) in
+    let ends : Tells bs latch.on.items (λ i b. live i b (nodes_view w.items) (lives_in top on head i)) = λ b i e. c.in_ok-latch-in-Loop.ensures.used b i e ∙ (λ j. live i b (nodes_view (mw j)) (lives_in top (o5 j) (h6 j) i)) in
+    let p = and_parts c.in_ok-first-in-Loop.first.kept latch.kept (sym c.both-in-Loop.ensures ∙ g) in
+    subst (λ y. AreKeptIn bs y on c.args.out.now c.args.end.now) (sym (loop_is c.args.n.now v w c.in-Loop.is))
+    (loop_kept bs on head top latch.on.items (nodes_view v.items) (nodes_view w.items) tops last same heads ends c.args.out.now c.args.end.now c.args.n.now.place
+    (kept_at bs last (λ j. nodes_view (mv j)) o8 l9 (c.in_ok-first-in-Loop.ensures.kept p.0))
+    (kept_at bs top (λ j. nodes_view (mw j)) o5 h6 (c.in_ok-latch-in-Loop.ensures.kept p.1)))
+
+pub list_node-returns-in_ok-first-in-Loop-clause-node : goal.list_node-returns-in_ok-first-in-Loop-clause-node
+list_node-returns-in_ok-first-in-Loop-clause-node t c =
+    let bs = c.args.homes.now.bases.items in
+    let on = c.args.on.items in
+    let head = c.in_ok-head-in-Loop.head.items in
+    let top = c.in_ok-top-in-Loop.top.items in
+    let latch = c.in_ok-latch-in-Loop.latch in
+    let last = c.in_ok-last-in-Loop.last.items in
+    let v = c.in-Loop.body in
+    let w = c.in-Loop.step in
+    let vb = ap (λ (u : Vec CodeNode). u.items) c.in-Loop.body-is in
+    let wb = ap (λ (u : Vec CodeNode). u.items) c.in-Loop.step-is in
+    let a : c.deref-in-Loop.result.now ≡ v.items = c.deref-in-Loop.ensures.value ∙ vb in
+    let d : c.deref-in-Loop-2.result.now ≡ w.items = c.deref-in-Loop-2.ensures.value ∙ wb in
+    let o : c.deref-in-Loop-3.result.now ≡ on = c.deref-in-Loop-3.ensures.value in
+    let mw : c.deref_mut-in-Loop.result.now ≡ w.items = c.deref_mut-in-Loop.ensures.value ∙ wb in
+    let mv : c.deref_mut-in-Loop-2.result.now ≡ v.items = c.deref_mut-in-Loop-2.ensures.value ∙ vb in
+    let o5 : c.deref-in-Loop-5.result.now ≡ on = c.deref-in-Loop-5.ensures.value in
+    let h6 : c.deref-in-Loop-6.result.now ≡ head = c.deref-in-Loop-6.ensures.value in
+    let o8 : c.deref-in-Loop-8.result.now ≡ on = c.deref-in-Loop-8.ensures.value in
+    let l9 : c.deref-in-Loop-9.result.now ≡ latch.on.items = c.deref-in-Loop-9.ensures.value in
+    let tops : top ≡ head = search rules in
+    let same : last ≡ latch.on.items = search rules in
+    let heads : Tells bs head (λ i b. head_live i b (nodes_view v.items) (nodes_view w.items) (has on i)) = λ b i e. c.in_ok-head-in-Loop.ensures b i e ∙ (λ j. head_live i b (nodes_view (a j)) (nodes_view (d j)) (has (o j) i)) in
+    let ends : Tells bs latch.on.items (λ i b. live i b (nodes_view w.items) (lives_in top on head i)) = λ b i e. c.in_ok-latch-in-Loop.ensures.used b i e ∙ (λ j. live i b (nodes_view (mw j)) (lives_in top (o5 j) (h6 j) i)) in
+    let ys = c.list_row-in-Loop-2.new.rows in
+    let zs = c.list_row-in-Loop.new.rows in
+    (λ i. kind_view c.args.n.now.place (views.Loop (with_items (c.in-Loop.body-is i) ys) (with_items (c.in-Loop.step-is i) zs)))
+    ∙ loop_done bs on head top latch.on.items (nodes_view v.items) (nodes_view w.items) tops last same heads ends c.args.out.now c.args.end.now c.args.n.now v w (with_items v ys) (with_items w zs) c.in-Loop.is refl refl
+    (row_within (λ r. used_listed (slot_in bs) bs r (λ b. lives_in last on latch.on.items (slot_in bs b))) v c.deref_mut-in-Loop-2.result.now ys mv (omega (arith, c.list_row-in-Loop-2.auto.rows, ap length mv, v.ok.0))
+    (c.in_ok-first-in-Loop.ensures.row ∙ (λ j. used_listed (slot_in bs) bs (nodes_view c.deref_mut-in-Loop-2.result.now) (λ b. lives_in last (o8 j) (l9 j) (slot_in bs b)))))
+    (row_within (λ r. used_listed (slot_in bs) bs r (λ b. lives_in top on head (slot_in bs b))) w c.deref_mut-in-Loop.result.now zs mw (omega (arith, c.list_row-in-Loop.auto.rows, ap length mw, w.ok.0))
+    (c.in_ok-latch-in-Loop.ensures.row ∙ (λ j. used_listed (slot_in bs) bs (nodes_view c.deref_mut-in-Loop.result.now) (λ b. lives_in top (o5 j) (h6 j) (slot_in bs b)))))
+
+-- ---- the others
+
+pub list_node-returns-in_ok-to_vec-in-Break-clause-used : goal.list_node-returns-in_ok-to_vec-in-Break-clause-used
+unfolding live
+list_node-returns-in_ok-to_vec-in-Break-clause-used t c =
+    let same : c.in_ok-to_vec-in-Break.field-0.items ≡ c.args.out.now = search rules in
+    λ b i e. ap (λ l. has l i) same ∙ ap (λ k. live_node i b (kind_view c.args.n.now.place k) (lives_in c.args.on.items c.args.out.now c.args.end.now i)) (sym c.in-Break.is)
+
+pub list_node-returns-in_ok-to_vec-in-Break-clause-kept : goal.list_node-returns-in_ok-to_vec-in-Break-clause-kept
+list_node-returns-in_ok-to_vec-in-Break-clause-kept t c = λ g b i e. way_kept i b c.args.n.now _ (lives_in c.args.on.items c.args.out.now c.args.end.now i) c.in-Break.is refl
+
+pub list_node-returns-in_ok-to_vec-in-Next-clause-used : goal.list_node-returns-in_ok-to_vec-in-Next-clause-used
+unfolding live
+list_node-returns-in_ok-to_vec-in-Next-clause-used t c =
+    let same : c.in_ok-to_vec-in-Next.field-0.items ≡ c.args.end.now = search rules in
+    λ b i e. ap (λ l. has l i) same ∙ ap (λ k. live_node i b (kind_view c.args.n.now.place k) (lives_in c.args.on.items c.args.out.now c.args.end.now i)) (sym c.in-Next.is)
+
+pub list_node-returns-in_ok-to_vec-in-Next-clause-kept : goal.list_node-returns-in_ok-to_vec-in-Next-clause-kept
+list_node-returns-in_ok-to_vec-in-Next-clause-kept t c = λ g b i e. way_kept i b c.args.n.now _ (lives_in c.args.on.items c.args.out.now c.args.end.now i) c.in-Next.is refl
+
+pub list_node-returns-in-Ret-clause-used : goal.list_node-returns-in-Ret-clause-used
+unfolding live
+list_node-returns-in-Ret-clause-used t c = λ b i e.
+    ap (λ l. has l i) c.new.ensures.items ∙ (has_nothing i ∙ ap (λ k. live_node i b (kind_view c.args.n.now.place k) (lives_in c.args.on.items c.args.out.now c.args.end.now i)) (sym c.in-Ret.is))
+
+pub list_node-returns-in-Ret-clause-kept : goal.list_node-returns-in-Ret-clause-kept
+list_node-returns-in-Ret-clause-kept t c = λ g b i e. way_kept i b c.args.n.now _ (lives_in c.args.on.items c.args.out.now c.args.end.now i) c.in-Ret.is refl
+
+pub list_node-returns-in-Set-clause-used : goal.list_node-returns-in-Set-clause-used
+list_node-returns-in-Set-clause-used t c =
+    let l : is_plain (node_view c.args.n.now) ≡ true = elim c.in-Set.is [
+      | inl (x, y, e) ↦ plain_of c.args.n.now _ e refl
+      | inr (inl (x, e)) ↦ plain_of c.args.n.now _ e refl
+      | inr (inr (inl (x, e))) ↦ plain_of c.args.n.now _ e refl
+      | inr (inr (inr (x, y, e))) ↦ plain_of c.args.n.now _ e refl
+    ] in
+    let bs = c.args.homes.now.bases.items in
+    act_told c.list_act-in-Set.result bs c.args.on.items c.args.out.now c.args.end.now _ c.args.n.now c.list_act-in-Set.ensures.used (search (rules, views.the_lemmas, c.in-Set.is)) l
+
+pub list_node-returns-in-Set-clause-kept : goal.list_node-returns-in-Set-clause-kept
+list_node-returns-in-Set-clause-kept t c =
+    let l : is_plain (node_view c.args.n.now) ≡ true = elim c.in-Set.is [
+      | inl (x, y, e) ↦ plain_of c.args.n.now _ e refl
+      | inr (inl (x, e)) ↦ plain_of c.args.n.now _ e refl
+      | inr (inr (inl (x, e))) ↦ plain_of c.args.n.now _ e refl
+      | inr (inr (inr (x, y, e))) ↦ plain_of c.args.n.now _ e refl
+    ] in
+    let bs = c.args.homes.now.bases.items in
+    act_keeps c.list_act-in-Set.result bs c.args.on.items c.args.out.now c.args.end.now _ c.args.n.now c.list_act-in-Set.ensures.kept (search (rules, views.the_lemmas, c.in-Set.is)) l
+
+pub list_node-returns-in-Safepoint-clause-used : goal.list_node-returns-in-Safepoint-clause-used
+list_node-returns-in-Safepoint-clause-used t c =
+    let l : is_plain (node_view c.args.n.now) ≡ true = elim c.in-Safepoint.is [
+      | inl (x, e) ↦ plain_of c.args.n.now _ e refl
+      | inr (inl (x, e)) ↦ plain_of c.args.n.now _ e refl
+      | inr (inr (x, e)) ↦ plain_of c.args.n.now _ e refl
+    ] in
+    let bs = c.args.homes.now.bases.items in
+    act_told c.list_act.result bs c.args.on.items c.args.out.now c.args.end.now _ c.args.n.now c.list_act.ensures.used (search (rules, views.the_lemmas, c.in-Safepoint.is)) l
+
+pub list_node-returns-in-Safepoint-clause-kept : goal.list_node-returns-in-Safepoint-clause-kept
+list_node-returns-in-Safepoint-clause-kept t c =
+    let l : is_plain (node_view c.args.n.now) ≡ true = elim c.in-Safepoint.is [
+      | inl (x, e) ↦ plain_of c.args.n.now _ e refl
+      | inr (inl (x, e)) ↦ plain_of c.args.n.now _ e refl
+      | inr (inr (x, e)) ↦ plain_of c.args.n.now _ e refl
+    ] in
+    let bs = c.args.homes.now.bases.items in
+    act_keeps c.list_act.result bs c.args.on.items c.args.out.now c.args.end.now _ c.args.n.now c.list_act.ensures.kept (search (rules, views.the_lemmas, c.in-Safepoint.is)) l

@@ -1,0 +1,106 @@
+-- All slots at once: sets of slots, and lists of those that are used later.
+use Rattle.std.specs.Prelude.{◌≡◌, ◌<◌, ◌^◌, not, ℕ, zero, suc, List, [], ◌∷◌, length, Some, Bool, true, ◌||◌, ◌&&◌, if◌then◌else◌}
+use Rattle.struct_ir.specs.Nodes.{Act, Node, plain, if_, loop, break_, next_, ret, Nodes, no_nodes, more_nodes}
+use Rattle.pin_flow.specs.declared.mark.Mark.TheVariants as kinds
+use Rattle.pin_flow.specs.Looks.{act_looks, act_assigns, looks_into}
+use Rattle.pin_flow.specs.Slots.{slot_if, IsIn}
+use Rattle.pin_flow.specs.Views.{looks_at, looks_slot, assigns_at}
+use Rattle.pin_flow.specs.Live.{Live, lives, live_act, live, body_lives, latch_lives}
+use Rattle.mark_sets.specs.Views.{bit_of}
+use Rattle.mark_sets.specs.Words.{has}
+use Rattle.pin_frames.specs.declared.used.Homes.{Homes}
+use Rattle.pin_frames.specs.inner.Place.{act_listing, rest_lives}
+
+-- ---- registers and their slots
+
+-- each stands once
+abbrev pub AreOnce : List ℕ → Type 0
+AreOnce [] = Unit {0}
+AreOnce (b ∷ bs) = (IsIn bs b → ⊥) × AreOnce bs
+
+-- there are few enough, each stands once, and its bit is its slot
+pub record IsHome (x : Homes) : Type 0 where
+  pub few : length x.bases.items < 2 ^ 32
+  pub once : AreOnce x.bases.items
+  pub bits : (b : ℕ) → bit_of x.marks (kinds.Held b) ≡ slot_if x.bases.items b
+
+-- so it is with these
+unfoldable pub AreHomes : Homes → Type 0
+AreHomes x = IsHome x
+
+-- ---- sets
+
+-- of each of the registers the set says whether its slot is used later
+abbrev pub Tells : List ℕ → List ℕ → (ℕ → ℕ → Bool) → Type 0
+Tells bs set used = (b i : ℕ) → slot_if bs b ≡ Some i → has set i ≡ used i b
+
+-- what these three sets say of a slot
+abbrev pub lives_in : (on out end : List ℕ) → (i : ℕ) → Live
+lives_in on out end i = lives (has on i) (has out i) (has end i)
+
+-- the numbers of a function, from i on n of them, of which this is so
+abbrev pub numbers : (ℕ → Bool) → (i n : ℕ) → List ℕ
+numbers f i zero = []
+numbers f i (suc n) = if f i then i ∷ numbers f (suc i) n else numbers f (suc i) n
+
+-- ---- lists by what is used later alone
+
+-- the slots of those registers that are used later
+abbrev pub slots_for : (ℕ → ℕ) → List ℕ → (ℕ → Bool) → List ℕ
+slots_for slot_of [] later = []
+slots_for slot_of (b ∷ bs) later = if later b then slot_of b ∷ slots_for slot_of bs later else slots_for slot_of bs later
+
+-- each list has the slots that are used at the act or later
+abbrev mutual
+  pub used_listed : (ℕ → ℕ) → List ℕ → Nodes → (ℕ → Live) → Nodes
+  used_listed slot_of bs no_nodes ls = no_nodes
+  used_listed slot_of bs (more_nodes n rest) ls = more_nodes (used_listed_in slot_of bs n (rest_lives slot_of rest ls)) (used_listed slot_of bs rest ls)
+
+  pub used_listed_in : (ℕ → ℕ) → List ℕ → Node → (ℕ → Live) → Node
+  used_listed_in slot_of bs (plain place a) ls = plain place (act_listing a (slots_for slot_of bs (λ b. live_act (slot_of b) b a (ls b).on)))
+  used_listed_in slot_of bs (if_ place temp one other) ls = if_ place temp (used_listed slot_of bs one ls) (used_listed slot_of bs other ls)
+  used_listed_in slot_of bs (loop place body latch) ls =
+      loop place (used_listed slot_of bs body (λ b. body_lives (slot_of b) b body latch (ls b).on)) (used_listed slot_of bs latch (λ b. latch_lives (slot_of b) b body latch (ls b).on))
+  used_listed_in slot_of bs (break_ place) ls = break_ place
+  used_listed_in slot_of bs (next_ place) ls = next_ place
+  used_listed_in slot_of bs (ret place temp) ls = ret place temp
+
+-- a node with this list, where it has one
+abbrev pub node_listing : Node → List ℕ → Node
+node_listing (plain place a) list = plain place (act_listing a list)
+node_listing (if_ place temp one other) list = if_ place temp one other
+node_listing (loop place body latch) list = loop place body latch
+node_listing (break_ place) list = break_ place
+node_listing (next_ place) list = next_ place
+node_listing (ret place temp) list = ret place temp
+
+-- ---- where what is used later is held: each act keeps it
+
+-- the act doesn't assign b, and looks into the slot for b alone
+abbrev pub keeps : (slot b : ℕ) → Act → Bool
+keeps slot b a = not (act_assigns b a) && (not (looks_into slot a) || act_looks b a)
+
+-- the same of a node that is an act
+abbrev pub node_keeps : (slot b : ℕ) → Node → Bool
+node_keeps slot b n = not (assigns_at b n) && (not (looks_slot slot n) || looks_at b n)
+
+-- each act behind which an access of the slot and register comes later keeps them
+unfoldable mutual
+  pub Kept : (slot b : ℕ) → Nodes → Live → Type 0
+  Kept slot b no_nodes l = Unit {0}
+  Kept slot b (more_nodes n rest) l = KeptIn slot b n (lives (live slot b rest l) l.out l.end) × Kept slot b rest l
+
+  pub KeptIn : (slot b : ℕ) → Node → Live → Type 0
+  KeptIn slot b (plain place a) l = l.on ≡ true → keeps slot b a ≡ true
+  KeptIn slot b (if_ place temp one other) l = Kept slot b one l × Kept slot b other l
+  KeptIn slot b (loop place body latch) l = Kept slot b body (body_lives slot b body latch l.on) × Kept slot b latch (latch_lives slot b body latch l.on)
+  KeptIn slot b (break_ place) l = Unit {0}
+  KeptIn slot b (next_ place) l = Unit {0}
+  KeptIn slot b (ret place temp) l = Unit {0}
+
+-- for each of the registers
+abbrev pub AreKept : List ℕ → Nodes → (on out end : List ℕ) → Type 0
+AreKept bs ns on out end = (b i : ℕ) → slot_if bs b ≡ Some i → Kept i b ns (lives_in on out end i)
+
+abbrev pub AreKeptIn : List ℕ → Node → (on out end : List ℕ) → Type 0
+AreKeptIn bs n on out end = (b i : ℕ) → slot_if bs b ≡ Some i → KeptIn i b n (lives_in on out end i)

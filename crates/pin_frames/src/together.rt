@@ -1,0 +1,224 @@
+//! The lists of all registers at once, by what is used later.
+
+ghost use Rattle.std.specs.Prelude.{◌≡◌, ◌==◌, ◌<◌, ◌^◌, ◌||◌, ◌&&◌, ℕ, Some, true, false, length, not, IfOk, OnOk};
+ghost use Rattle.struct_ir.specs.Views.{step_view, node_view, nodes_view};
+ghost use Rattle.pin_flow.specs.Live.{uses, live, live_node};
+ghost use Rattle.pin_flow.specs.Looks.{is_to};
+ghost use Rattle.pin_flow.specs.Slots.{slot_if, slot_in};
+ghost use Rattle.pin_flow.specs.Views.{act_is, looks_slot};
+ghost use Rattle.mark_sets.specs.Words.{has};
+ghost use Rattle.pin_frames.specs.inner.Place.{step_listing};
+ghost use Rattle.pin_frames.specs.inner.Together.{AreHomes, Tells, lives_in, numbers, slots_for, used_listed, used_listed_in, node_listing, node_keeps, AreKept, AreKeptIn};
+
+use crate::used::{Homes, head_used, is_home, used_act};
+use ak_words::NoMemory;
+use mark_sets::words::{contains, united};
+use smallvec::SmallVec;
+use std::alloc::Global;
+use struct_ir::{Node, NodeKind, StepNode};
+
+/// What is used at or behind the start of a row, and whether each act keeps what is used behind it.
+#[derive(Drop)]
+pub struct Walked {
+    /// The slots.
+    pub on: Vec<u64>,
+    /// Whether they are kept: then each is available where it is used later.
+    pub kept: bool,
+}
+
+// Those of the numbers below `count` that are in the set.
+fn numbers_in(alloc: Global, set: &[u64], count: usize) -> Result<Vec<u32>, NoMemory>
+    requires { count < 2 ^ 32 }
+    ensures { IfOk result (λ v. v.items ≡ numbers (has set.now) 0 count) }
+{
+    let mut out = Vec::new(alloc);
+    'numbers: for i in 0..count {
+        if contains(set, i) {
+            out.push(i as u32)?;
+        }
+    }
+    Ok(out)
+}
+
+fn list_step(alloc: Global, slots: Vec<u32>, s: &mut StepNode) -> Result<(), NoMemory>
+    ensures { OnOk result (step_view s.new ≡ step_listing (step_view s.old) slots.items) }
+{
+    s.slots = if s.action.may_wait() {
+        SmallVec::from_slice(alloc, &slots)?
+    } else {
+        SmallVec::new(alloc)
+    };
+    Ok(())
+}
+
+// Makes this the node's own list, if it has one.
+fn list_own(alloc: Global, slots: Vec<u32>, n: &mut Node) -> Result<(), NoMemory>
+    ensures { OnOk result (node_view n.new ≡ node_listing (node_view n.old) slots.items) }
+{
+    match &mut n.kind {
+        NodeKind::Call(c) => c.slots = slots,
+        NodeKind::Step(s) => list_step(alloc, slots, s)?,
+        NodeKind::Safepoint(old) => *old = slots,
+        _ => {}
+    }
+    Ok(())
+}
+
+// Whether the register's slot is not in the set.
+fn is_unused(homes: &Homes, b: u32, set: &[u64]) -> bool
+    requires { AreHomes homes.now }
+    ensures { result ≡ true → (c i : ℕ) → slot_if homes.now.bases.items c ≡ Some i → has set.now i ≡ true → (c == b) ≡ false }
+{
+    match homes.marks.bit(b) {
+        Some(i) => !contains(set, i),
+        None => true,
+    }
+}
+
+fn is_unused_if(homes: &Homes, to: Option<u32>, set: &[u64]) -> bool
+    requires { AreHomes homes.now }
+    ensures { result ≡ true → (c i : ℕ) → slot_if homes.now.bases.items c ≡ Some i → has set.now i ≡ true → is_to c to ≡ false }
+{
+    match to {
+        Some(b) => is_unused(homes, b, set),
+        None => true,
+    }
+}
+
+fn looks_home(homes: &Homes, slot: u32, b: u32, set: &[u64]) -> bool
+    ensures { result ≡ true → (c : ℕ) → slot_if homes.now.bases.items c ≡ Some slot → has set.now slot ≡ true → (b == c) ≡ true }
+{
+    !contains(set, slot as usize) || is_home(homes, slot, b)
+}
+
+// Whether the act keeps the registers whose slots are in the set.
+fn keeps(homes: &Homes, n: &Node, set: &[u64]) -> bool
+    requires { AreHomes homes.now }
+    ensures { result ≡ true → (b i : ℕ) → slot_if homes.now.bases.items b ≡ Some i → has set.now i ≡ true → node_keeps i b (node_view n.now) ≡ true }
+{
+    match &n.kind {
+        NodeKind::Set(to, _) => is_unused(homes, *to, set),
+        NodeKind::Call(c) => is_unused_if(homes, c.to, set),
+        NodeKind::Step(s) => is_unused_if(homes, s.to, set),
+        NodeKind::Look(slot, b) => looks_home(homes, *slot, *b, set),
+        _ => true,
+    }
+}
+
+fn list_act(alloc: Global, homes: &Homes, n: &mut Node, on: Vec<u64>) -> Result<Walked, NoMemory>
+    requires { AreHomes homes.now }
+    ensures used { IfOk result (λ w. Tells homes.now.bases.items w.on.items (λ i b. act_is (uses i b) (node_view n.old) || (not (looks_slot i (node_view n.old)) && has on.items i))) }
+    ensures kept { IfOk result (λ w. w.kept ≡ true → (b i : ℕ) → slot_if homes.now.bases.items b ≡ Some i → has on.items i ≡ true → node_keeps i b (node_view n.old) ≡ true) }
+    ensures node { OnOk result (node_view n.new ≡ node_listing (node_view n.old) (slots_for (slot_in homes.now.bases.items) homes.now.bases.items (λ b. act_is (uses (slot_in homes.now.bases.items b) b) (node_view n.old) || (not (looks_slot (slot_in homes.now.bases.items b) (node_view n.old)) && has on.items (slot_in homes.now.bases.items b))))) }
+{
+    let kept = keeps(homes, n, &on);
+    let set = used_act(homes, n, on)?;
+    let slots = numbers_in(alloc, &set, homes.bases.len())?;
+    list_own(alloc, slots, n)?;
+    Ok(Walked { on: set, kept })
+}
+
+fn both(a: bool, b: bool) -> bool
+    ensures { result ≡ (a && b) }
+{
+    a && b
+}
+
+/// Makes the lists of the row: each has the slots that are used at its act or later.
+///
+/// # Errors
+///
+/// Only want of memory.
+#[cycle(lists)]
+pub(crate) fn list_row(
+    alloc: Global,
+    homes: &Homes,
+    rows: &mut [Node],
+    on: Vec<u64>,
+    out: &[u64],
+    end: &[u64],
+) -> Result<Walked, NoMemory>
+    requires { AreHomes homes.now }
+    ensures used { IfOk result (λ w. Tells homes.now.bases.items w.on.items (λ i b. live i b (nodes_view rows.old) (lives_in on.items out.now end.now i))) }
+    ensures kept { IfOk result (λ w. w.kept ≡ true → AreKept homes.now.bases.items (nodes_view rows.old) on.items out.now end.now) }
+    ensures row { OnOk result (nodes_view rows.new ≡ used_listed (slot_in homes.now.bases.items) homes.now.bases.items (nodes_view rows.old) (λ b. lives_in on.items out.now end.now (slot_in homes.now.bases.items b))) }
+{
+    let mut set = on;
+    let mut kept = true;
+    let mut left = rows.len();
+    'row: while left > 0 {
+        left -= 1;
+        let node = list_node(alloc, homes, &mut rows[left], set, out, end)?;
+        kept = both(node.kept, kept);
+        set = node.on;
+    }
+    Ok(Walked { on: set, kept })
+}
+
+#[cycle(lists)]
+fn list_node(
+    alloc: Global,
+    homes: &Homes,
+    n: &mut Node,
+    on: Vec<u64>,
+    out: &[u64],
+    end: &[u64],
+) -> Result<Walked, NoMemory>
+    requires { AreHomes homes.now }
+    ensures used { IfOk result (λ w. Tells homes.now.bases.items w.on.items (λ i b. live_node i b (node_view n.old) (lives_in on.items out.now end.now i))) }
+    ensures kept { IfOk result (λ w. w.kept ≡ true → AreKeptIn homes.now.bases.items (node_view n.old) on.items out.now end.now) }
+    ensures node { OnOk result (node_view n.new ≡ used_listed_in (slot_in homes.now.bases.items) homes.now.bases.items (node_view n.old) (λ b. lives_in on.items out.now end.now (slot_in homes.now.bases.items b))) }
+{
+    match &mut n.kind {
+        NodeKind::If(_, one, other) => {
+            let start = on.to_vec(alloc)?;
+            let first = list_row(alloc, homes, one, start, out, end)?;
+            let second = list_row(alloc, homes, other, on, out, end)?;
+            Ok(Walked {
+                on: united(first.on, second.on),
+                kept: both(first.kept, second.kept),
+            })
+        }
+        NodeKind::Loop(body, step) => {
+            let head = head_used(alloc, homes, body, step, &on)?;
+            let top = head.to_vec(alloc)?;
+            let latch = list_row(alloc, homes, step, top, &on, &head)?;
+            let last = latch.on.to_vec(alloc)?;
+            let first = list_row(alloc, homes, body, last, &on, &latch.on)?;
+            Ok(Walked {
+                on: head,
+                kept: both(first.kept, latch.kept),
+            })
+        }
+        NodeKind::Set(..) | NodeKind::Call(_) | NodeKind::Step(_) | NodeKind::Look(..) => {
+            list_act(alloc, homes, n, on)
+        }
+        NodeKind::Safepoint(_) | NodeKind::Begin(_) | NodeKind::End(_) => {
+            list_act(alloc, homes, n, on)
+        }
+        NodeKind::Break => Ok(Walked {
+            on: out.to_vec(alloc)?,
+            kept: true,
+        }),
+        NodeKind::Next => Ok(Walked {
+            on: end.to_vec(alloc)?,
+            kept: true,
+        }),
+        NodeKind::Ret(_) => Ok(Walked {
+            on: Vec::new(alloc),
+            kept: true,
+        }),
+    }
+}
+
+/// Whether the set has no numbers.
+pub(crate) fn is_empty(set: &[u64]) -> bool
+    ensures { result ≡ true → (i : ℕ) → has set.now i ≡ false }
+{
+    for word in set {
+        if *word != 0 {
+            return false;
+        }
+    }
+    true
+}
