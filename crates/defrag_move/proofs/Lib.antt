@@ -6,5 +6,6 @@ pub mod Named
 pub mod Steps
 pub mod Places
 pub mod Turns
+pub mod TakenAlong
 pub mod Choices
 pub mod Filled

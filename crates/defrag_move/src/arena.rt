@@ -7,12 +7,14 @@ ghost use Rattle.flat_store.specs.Flat.{first_address, HasBytes, first_outside, 
 ghost use Rattle.flat_store.specs.Word.{is_word_size, low_bytes};
 ghost use Rattle.sub_heaps.specs.SubHeaps.{IsShape};
 ghost use Rattle.move_plan.specs.Holding.{is_pinned};
+ghost use Rattle.move_plan.specs.Sliding.{IsSlide};
 ghost use Rattle.sub_heaps.specs.Moving.{AreLegal, IsAllowed, after_moves};
 ghost use Rattle.arena_meaning.specs.Arena.{IsConsistent, IsLiveStart, object_of, place_named, places_named, start_behind};
 ghost use Rattle.sub_heaps.specs.ByPlace.{object_at};
 ghost use Rattle.arena_meaning.specs.Changes.{IsAnswer, after_alloc, after_alloc_copy, after_alloc_zero, is_live_start, with_filled, with_places, without_id};
 ghost use Rattle.arena_meaning.specs.Moves.{KeepsObjects, after_plan, moved};
 
+use crate::carrying::carry_all;
 use ak_words::NoMemory;
 use arena_meaning::{Alloced, NotLive};
 use flat_store::{FIRST_ADDRESS, Flat, OutsideFlat};
@@ -187,6 +189,25 @@ impl Arena {
         for next in moves {
             self.move_object(*next);
         }
+    }
+
+    /// Makes the moves that slide, as [`Arena::apply`] makes them, the objects in one walk.
+    pub fn slide(&mut self, moves: &[Move], pins: &Pins)
+        requires { IsSlide (is_pinned pins.now) self.old.heaps moves.now }
+        ensures heaps { self.new.heaps ≡ after_moves moves.now self.old.heaps }
+        ensures kept { KeepsObjects (is_pinned pins.now) moves.now self.old self.new }
+        ensures after { self.new ≡ after_plan moves.now self.old }
+        ensures consistent { IsConsistent self.new }
+    {
+        carry_all(
+            &mut self.table,
+            &mut self.bytes,
+            &self.heaps,
+            self.start,
+            moves,
+            pins,
+        );
+        self.heaps.shift_all(moves);
     }
 
     /// Writes the `n` low bytes of `v` from `at` on, the least first ([`Flat::store`]).

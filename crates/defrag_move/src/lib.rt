@@ -4,6 +4,7 @@
 #![tactic(auto)]
 
 mod arena;
+mod carrying;
 mod laws;
 
 pub use arena::Arena;

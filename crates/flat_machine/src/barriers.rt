@@ -150,7 +150,7 @@ impl Shared {
         let before = self.arena.heaps().extent();
         self.plan.clear();
         slide(self.arena.heaps(), &self.pins, &mut self.plan);
-        self.arena.apply(self.plan.moves(), &self.pins);
+        self.arena.slide(self.plan.moves(), &self.pins);
         self.barriers = self.barriers.saturating_add(1);
         self.moved_objects = self
             .moved_objects

@@ -1,5 +1,6 @@
 pub mod Aligned
 pub mod Blocks
+pub mod Carried
 pub mod Depth
 pub mod Edits
 pub mod Extents

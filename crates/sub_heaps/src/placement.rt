@@ -1,7 +1,8 @@
 ghost use Rattle.std.specs.Prelude.{◌≡◌, ℕ, ◌+◌, ◌%◌, ◌<◌, ◌≤◌, ◌↔◌, [], length, nat_le, Some, IsSome, IsNone, IfSome, IfNone, IsSomeAnd, IfOk};
-ghost use Rattle.std.specs.List.{find, sum_by};
+ghost use Rattle.std.specs.List.{All, AllPairs, find, sum_by};
 ghost use Rattle.sub_heaps.specs.ByPlace.{object_at, with_object, without, shifted};
 ghost use Rattle.std.specs.Vec.{vec_len, vec_capacity};
+ghost use Rattle.sub_heaps.specs.Moving.{carried};
 ghost use Rattle.sub_heaps.specs.inner.Walks.{walked};
 ghost use Rattle.sub_heaps.specs.SubHeaps.{IsShape, rounded, IsRounded, FitsAt, IsLowestFit, IsSound, IsAligned, extent_of};
 
@@ -119,6 +120,19 @@ impl Heaps {
             }
             _ => self.put_again(from, to),
         }
+    }
+
+    /// Moves objects in one walk: each move is of an object that is there, in rising order, and the objects
+    /// keep their order.
+    pub fn shift_all(&mut self, moves: &[Move])
+        requires rising { AllPairs (λ a b. a.from < b.from) moves.now }
+        requires objects { All (λ m. IsSome (object_at m.from self.old.objects)) moves.now }
+        requires stand { IsSound (record self.old { objects = carried moves.now self.old.objects }) }
+        ensures moved { self.new ≡ record self.old { objects = carried moves.now self.old.objects } }
+        ensures sound { IsSound self.new }
+    {
+        let _order = &self.tree;
+        self.make_in_order(moves);
     }
 
     /// The lowest object that starts at or after `from`.
