@@ -93,10 +93,7 @@ impl Plan {
         let turn = self.moves.len() as u32;
         put_in_order(&mut self.origins, origin(turn, m));
         put_in_order(&mut self.targets, target(turn, m));
-        match self.moves.push(m) {
-            Ok(()) => {}
-            Err(_) => unreachable!(),
-        }
+        self.moves.push_reserved(m);
     }
 
     /// Takes all moves away.

@@ -1,5 +1,5 @@
-ghost use Rattle.std.specs.Prelude.{◌≡◌, ◌+◌, ◌<◌, ◌≤◌, ◌↔◌, length, IsTrue};
-ghost use Rattle.std.specs.List.{AllWithin};
+ghost use Rattle.std.specs.Prelude.{◌≡◌, ◌+◌, ◌<◌, ◌≤◌, ◌↔◌, IsTrue};
+ghost use Rattle.std.specs.List.{All};
 ghost use Rattle.std.specs.Vec.{vec_len, vec_capacity};
 ghost use Rattle.sub_heaps.specs.ByPlace.{object_at, with_object};
 ghost use Rattle.move_plan.specs.inner.Spans.{AreSorted, AreInOrder};
@@ -14,24 +14,26 @@ pub fn put_in_order(spans: &mut Vec<Object>, new: Object)
     ensures len { vec_len spans.new ≡ vec_len spans.old + 1 }
     ensures capacity { vec_capacity spans.old ≤ vec_capacity spans.new }
 {
-    let behind = count_up_to(spans, new.at);
+    // Where places rise from span to span, as in a slide, each goes behind all others.
+    if end_no_higher(spans, new.at) {
+        spans.push_reserved(new);
+        return;
+    }
+    let behind = spans.partition_point(|span| span.at <= new.at);
     match spans.insert(behind, new) {
         Ok(()) => {}
         Err(_) => unreachable!(),
     }
 }
 
-// How many spans start at a place or below.
-fn count_up_to(spans: &[Object], at: u32) -> usize
+// Whether the last span starts at a place or below, and so all do.
+fn end_no_higher(spans: &[Object], at: u32) -> bool
     requires { AreSorted 0 spans.now }
-    ensures bound { result ≤ length spans.now }
-    ensures before { AllWithin (λ s. s.at ≤ at) spans.now 0 result }
-    ensures behind { AllWithin (λ s. at < s.at) spans.now result (length spans.now) }
+    ensures { IsTrue result → All (λ s. s.at ≤ at) spans.now }
 {
     match spans.last() {
-        Some(last) if at < last.at => spans.partition_point(|span| span.at <= at),
-        // All of them do where places rise from span to span, as those of a slide.
-        _ => spans.len(),
+        Some(last) => last.at <= at,
+        None => true,
     }
 }
 

@@ -32,7 +32,7 @@ invariant_of-self c =
     let m = c.args.m in
     let less : length ms < p.room = subst (λ (m : MoveList). length m.moves < m.room) (sym c.self.view_is) c.requires in
     let turn : c.len-turn.result ≡ length ms = c.len-turn.ensures ∙ p.moves.ok.0 in
-    let pushed : c.push.new.self.items ≡ ms ++ m ∷ [] = c.in-Ok.ensures.items in
+    let pushed : c.push_reserved.new.self.items ≡ ms ++ m ∷ [] = c.push_reserved.ensures.items in
     let from : c.put_in_order.new.spans.items ≡ origins_of (ms ++ m ∷ []) =
     c.put_in_order.ensures.items ∙ ap (λ o. with_object o p.origins.items) (c.origin.ensures ∙ ap (λ t. origin t m) turn) ∙ ap (λ xs. with_object (origin (length ms) m) xs) c.self.invariant.in_order_from ∙ sym (origins_push ms m) in
     let to : c.put_in_order-2.new.spans.items ≡ targets_of (ms ++ m ∷ []) =
@@ -42,7 +42,7 @@ invariant_of-self c =
       bounded = c.self.invariant.bounded;
       in_order_from = from ∙ ap origins_of (sym pushed);
       in_order_to = to ∙ ap targets_of (sym pushed);
-      moves_fit = omega (arith, c.self.invariant.moves_fit, c.in-Ok.ensures.capacity);
+      moves_fit = omega (arith, c.self.invariant.moves_fit, c.push_reserved.ensures.capacity);
       origins_fit = omega (arith, c.self.invariant.origins_fit, c.put_in_order.ensures.capacity);
       targets_fit = omega (arith, c.self.invariant.targets_fit, c.put_in_order-2.ensures.capacity);
     }
