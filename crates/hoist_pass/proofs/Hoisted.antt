@@ -43,7 +43,7 @@ stripped_kept b (end_object i) e = absurd cc
 
 -- a Look of b is none of another
 module _ (b c : ℕ) (other : b ≡ c → ⊥) where
-  other_looks : (a : Act) → no_look_of b a ≡ false → act_looks c a ≡ false
+  pub other_looks : (a : Act) → no_look_of b a ≡ false → act_looks c a ≡ false
   other_looks (set to calc) e = refl
   other_looks (call c) e = refl
   other_looks (step x) e = refl
@@ -52,7 +52,7 @@ module _ (b c : ℕ) (other : b ≡ c → ⊥) where
   other_looks (begin_object i) e = refl
   other_looks (end_object i) e = refl
 
-  other_idle : (a : Act) → no_look_of b a ≡ false → (v : Bool) → held c a v ≡ v
+  pub other_idle : (a : Act) → no_look_of b a ≡ false → (v : Bool) → held c a v ≡ v
   other_idle a e v = rw (other_looks a e, look_assigns_none b c a e) refl
 
   module _ (slot : ℕ) (ns : Nodes) where

@@ -10,3 +10,4 @@ pub mod LiftRows
 pub mod Stays
 pub mod Programs
 pub mod Within
+pub mod AllAtOnce

@@ -73,7 +73,7 @@ module _ (slot b : ℕ) where
   wants_lifted (next_ p) = refl
   wants_lifted (ret p x) = refl
 
-  place_lifted : (n : Node) → node_place (lifted_in slot b n) ≡ node_place n
+  pub place_lifted : (n : Node) → node_place (lifted_in slot b n) ≡ node_place n
   place_lifted (plain p a) = refl
   place_lifted (if_ p x one other) = refl
   place_lifted (loop p body latch) = refl

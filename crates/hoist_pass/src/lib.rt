@@ -5,6 +5,7 @@
 
 pub mod dropping;
 pub mod hoisting;
+pub mod laws;
 pub mod lifting;
 
 pub use hoisting::{hoist, hoist_owned};

@@ -1,6 +1,6 @@
 -- Looks go before the outermost loop that doesn't assign their register, and none stands where a slot is available.
-use Rattle.std.specs.Prelude.{◌≡◌, not, ℕ, List, [], ◌∷◌, map, Option, Some, None, Bool, true, false, ◌||◌, ◌&&◌}
-use Rattle.struct_ir.specs.Nodes.{look, Node, plain, if_, loop, break_, next_, ret, Nodes, no_nodes, more_nodes, Func, Ir, node_place}
+use Rattle.std.specs.Prelude.{◌≡◌, ◌==◌, not, ℕ, List, [], ◌∷◌, map, Option, Some, None, Bool, true, false, ◌||◌, ◌&&◌}
+use Rattle.struct_ir.specs.Nodes.{Act, set, call, step, look, safepoint, begin_object, end_object, Node, plain, if_, loop, break_, next_, ret, Nodes, no_nodes, more_nodes, Func, Ir, node_place}
 use Rattle.struct_ir.specs.Structured.{done, then_, structured}
 use Rattle.struct_ir.specs.Erased.{put, erased}
 use Rattle.pin_flow.specs.Marks.{State, unreached, good, bad, end_state, head_of, flow, flow_node}
@@ -136,6 +136,80 @@ func_hoisted f = record { params = f.params; temps = f.temps; slots = f.slots; o
 -- a program with its Looks hoisted
 abbrev pub ir_hoisted : Ir → Ir
 ir_hoisted x = record { globals = x.globals; literals = x.literals; funcs = map func_hoisted x.funcs; main = x.main }
+
+-- ---- the same for all registers at once
+
+-- one of these
+abbrev pub is_in : List ℕ → (b : ℕ) → Bool
+is_in [] b = false
+is_in (c ∷ cs) b = (b == c) || is_in cs b
+
+-- before the node a Look of each of these registers that wants one there
+abbrev pub looks_for : (slot_of : ℕ → ℕ) → List ℕ → Node → Nodes → Nodes
+looks_for slot_of [] n rest = rest
+looks_for slot_of (b ∷ bs) n rest = put (wants b n) (plain (node_place n) (look (slot_of b) b)) (looks_for slot_of bs n rest)
+
+abbrev mutual
+  pub lifted_all : (slot_of : ℕ → ℕ) → List ℕ → Nodes → Nodes
+  lifted_all slot_of bs no_nodes = no_nodes
+  lifted_all slot_of bs (more_nodes n rest) = looks_for slot_of bs n (more_nodes (lifted_all_in slot_of bs n) (lifted_all slot_of bs rest))
+
+  pub lifted_all_in : (slot_of : ℕ → ℕ) → List ℕ → Node → Node
+  lifted_all_in slot_of bs (plain place a) = plain place a
+  lifted_all_in slot_of bs (if_ place temp one other) = if_ place temp (lifted_all slot_of bs one) (lifted_all slot_of bs other)
+  lifted_all_in slot_of bs (loop place body latch) = loop place (lifted_all slot_of bs body) (lifted_all slot_of bs latch)
+  lifted_all_in slot_of bs (break_ place) = break_ place
+  lifted_all_in slot_of bs (next_ place) = next_ place
+  lifted_all_in slot_of bs (ret place temp) = ret place temp
+
+-- the act stays: it is no Look of such a register, or some path comes that doesn't hold it
+abbrev pub stays : (those : ℕ → Bool) → Act → (ℕ → State) → Bool
+stays those (set to calc) t = true
+stays those (call c) t = true
+stays those (step x) t = true
+stays those (look slot b) t = not (those b) || is_bad (t b)
+stays those (safepoint slots) t = true
+stays those (begin_object i) t = true
+stays those (end_object i) t = true
+
+-- so does the node, if it is an act
+abbrev pub node_stays : (those : ℕ → Bool) → Node → (ℕ → State) → Bool
+node_stays those (plain place a) t = stays those a t
+node_stays those (if_ place temp one other) t = true
+node_stays those (loop place body latch) t = true
+node_stays those (break_ place) t = true
+node_stays those (next_ place) t = true
+node_stays those (ret place temp) t = true
+
+-- what stays of a row, where these are the states of registers before it
+abbrev mutual
+  pub dropped_all : (those : ℕ → Bool) → Nodes → (ℕ → State) → Nodes
+  dropped_all those no_nodes t = no_nodes
+  dropped_all those (more_nodes n rest) t = put (node_stays those n t) (dropped_all_in those n t) (dropped_all those rest (λ b. (flow_node (held b) n (t b)).on))
+
+  pub dropped_all_in : (those : ℕ → Bool) → Node → (ℕ → State) → Node
+  dropped_all_in those (plain place a) t = plain place a
+  dropped_all_in those (if_ place temp one other) t = if_ place temp (dropped_all those one t) (dropped_all those other t)
+  dropped_all_in those (loop place body latch) t =
+      let h : ℕ → State = λ b. head_of (flow (held b) body) (flow (held b) latch) (t b) in
+      loop place (dropped_all those body h) (dropped_all those latch (λ b. end_state (flow (held b) body (h b))))
+  dropped_all_in those (break_ place) t = break_ place
+  dropped_all_in those (next_ place) t = next_ place
+  dropped_all_in those (ret place temp) t = ret place temp
+
+-- it is none of these
+abbrev pub IsNotIn : List ℕ → (b : ℕ) → Type 0
+IsNotIn [] b = Unit {0}
+IsNotIn (c ∷ bs) b = (b ≡ c → ⊥) × IsNotIn bs b
+
+-- no register is there twice
+abbrev pub AreDistinct : List ℕ → Type 0
+AreDistinct [] = Unit {0}
+AreDistinct (b ∷ bs) = IsNotIn bs b × AreDistinct bs
+
+-- one walk that lifts for all of them and one that drops make what one register's turn after the other makes
+abbrev pub AllAtOnce : Type 0
+AllAtOnce = (slot_of : ℕ → ℕ) (bs : List ℕ) → AreDistinct bs → (ns : Nodes) → hoisted slot_of bs ns ≡ dropped_all (is_in bs) (lifted_all slot_of bs ns) (λ b. bad)
 
 -- ---- what hoisting keeps and gives, for code with one slot for each register
 

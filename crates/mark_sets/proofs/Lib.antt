@@ -1,0 +1,10 @@
+pub mod Exact
+pub mod Walked
+pub mod Later
+pub mod Masked
+pub mod Wordly
+pub mod Bit
+pub mod Gathering
+pub mod Rounds
+pub mod AddedRows
+pub mod Bits

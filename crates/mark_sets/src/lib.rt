@@ -1,0 +1,11 @@
+//! Many marks at once, as sets.
+//! Promises upward: each mark's part of the sets is that mark's own state, and loops are gone through once.
+//! Stands on the flow of marks.
+#![tactic(auto)]
+
+pub mod gather;
+pub mod laws;
+pub mod marks;
+pub mod pairs;
+pub mod sets;
+pub mod words;
