@@ -1,14 +1,14 @@
 -- One walk for all registers makes what a walk for each of them makes, one after the other.
-use Rattle.std.proofs.Common.{◌≡◌, ℕ, List, [], ◌∷◌, Bool, true, false, ◌==◌, ◌||◌, ◌&&◌, inl, inr, refl, sym, ap, subst, ◌∙◌}
+use Rattle.std.proofs.Common.{◌≡◌, ℕ, List, [], ◌∷◌, Bool, true, false, ◌==◌, ◌||◌, ◌&&◌, refl, sym, ap, subst, ◌∙◌}
 use Rattle.std.proofs.lemmas.Bool.{eqb-true, eq-eqb, ne_eqb, both_ways}
 use Rattle.std.specs.Prelude.{not}
 use Rattle.struct_ir.specs.Nodes.{Act, set, call, step, look, safepoint, begin_object, end_object, Node, plain, if_, loop, break_, next_, ret, Nodes, no_nodes, more_nodes, node_place}
 use Rattle.struct_ir.specs.Erased.{put}
-use Rattle.pin_flow.specs.Marks.{Mark, State, bad, after, at, Ways, in_turn, either, round_of, head_of, end_state, flow, flow_node}
+use Rattle.pin_flow.specs.Marks.{State, bad, after, at, Ways, in_turn, either, round_of, head_of, end_state, flow, flow_node}
 use Rattle.pin_flow.specs.Looks.{act_looks, act_assigns, some_act}
 use Rattle.pin_flow.specs.Held.{held}
 use Rattle.pin_flow.proofs.Strip.{by_bool, also_same, some_sifted, idle_after, flow_sifted}
-use Rattle.hoist_pass.specs.inner.Hoist.{wants, lifted, lifted_in, is_bad, needs, dropped, dropped_in, hoisted_one, hoisted, is_in, looks_for, lifted_all, lifted_all_in, stays, dropped_all, dropped_all_in, IsNotIn, AreDistinct, AllAtOnce}
+use Rattle.hoist_pass.specs.inner.Hoist.{wants, lifted, lifted_in, is_bad, needs, dropped, dropped_in, hoisted_one, is_in, looks_for, lifted_all, lifted_all_in, stays, dropped_all, dropped_all_in, IsNotIn, AllAtOnce}
 use Rattle.hoist_pass.proofs.Same.{no_look_of, strip_dropped, strip_lifted}
 use Rattle.hoist_pass.proofs.Done.{look_assigns_none}
 use Rattle.hoist_pass.proofs.Lift.{is_look}
@@ -80,7 +80,7 @@ module _ (b c : ℕ) (apart : b ≡ c → ⊥) where
 
 module _ (slot_of : ℕ → ℕ) where
   -- none where none is wanted
-  looks_none : (n : Node) → ((c : ℕ) → wants c n ≡ false) → (bs : List ℕ) (rest : Nodes) → looks_for slot_of bs n rest ≡ rest
+  pub looks_none : (n : Node) → ((c : ℕ) → wants c n ≡ false) → (bs : List ℕ) (rest : Nodes) → looks_for slot_of bs n rest ≡ rest
   looks_none n none [] rest = refl
   looks_none n none (c ∷ bs) rest = (λ i. put (none c i) (plain (node_place n) (look (slot_of c) c)) (looks_for slot_of bs n rest)) ∙ looks_none n none bs rest
 

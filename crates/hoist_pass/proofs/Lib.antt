@@ -5,9 +5,10 @@ pub mod Same
 pub mod Done
 pub mod Hoisted
 pub mod HoistedValid
-pub mod DropRows
-pub mod LiftRows
-pub mod Stays
 pub mod Programs
 pub mod Within
 pub mod AllAtOnce
+pub mod ByBit
+pub mod DroppedRows
+pub mod LiftedRows
+pub mod AllBits

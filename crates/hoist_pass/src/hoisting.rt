@@ -6,14 +6,17 @@ ghost use Rattle.struct_ir.specs.WholeViews.{ir_view};
 ghost use Rattle.struct_ir.specs.Safe.{EveryFunc};
 ghost use Rattle.pin_flow.specs.Funcs.{IsCovered, IsHoisted, IsHoistedThroughout};
 ghost use Rattle.pin_flow.specs.Slots.{HasOwnSlots, slot_if};
-ghost use Rattle.hoist_pass.specs.inner.Hoist.{lifted, hoisted_one, hoisted_for, hoisted_each, func_hoisted, ir_hoisted};
+ghost use Rattle.hoist_pass.specs.inner.Hoist.{hoisted_each, func_hoisted, ir_hoisted, AreDistinct};
 
 use crate::dropping::drop_row;
-use crate::lifting::{lift_row, some_wants};
+use crate::lifting::lift_row;
 use ak_words::NoMemory;
+use mark_sets::gather::gather_each;
+use mark_sets::marks::held_marks;
+use mark_sets::sets::Sets;
+use mark_sets::words::full;
 use pin_flow::programs::copy_ir;
-use pin_flow::slots::{bases_of, slot_of};
-use pin_flow::state::State;
+use pin_flow::slots::bases_of;
 use std::alloc::Global;
 use struct_ir::{Ir, IrFunc, Node};
 
@@ -93,42 +96,17 @@ fn hoist_func(alloc: Global, f: IrFunc) -> Result<IrFunc, NoMemory>
     })
 }
 
+// All of them in one walk that lifts, one that gathers what rounds add, and one that drops.
 fn hoist_bases(alloc: Global, bases: &[u32], rows: Vec<Node>) -> Result<Vec<Node>, NoMemory>
-    requires { length bases.now < 2 ^ 32 }
+    requires few { length bases.now < 2 ^ 32 }
+    requires distinct { AreDistinct bases.now }
     ensures { IfOk result (λ v. nodes_view v.items ≡ hoisted_each (slot_if bases.now) bases.now (nodes_view rows.items)) }
 {
-    let mut code = rows;
-    for b in bases {
-        code = hoist_base(alloc, bases, *b, code)?;
-    }
-    Ok(code)
-}
-
-fn hoist_base(alloc: Global, bases: &[u32], b: u32, code: Vec<Node>) -> Result<Vec<Node>, NoMemory>
-    requires { length bases.now < 2 ^ 32 }
-    ensures { IfOk result (λ v. nodes_view v.items ≡ hoisted_for (slot_if bases.now b) b (nodes_view code.items)) }
-{
-    match slot_of(bases, b) {
-        Some(slot) => hoist_one(alloc, slot, b, code),
-        None => Ok(code),
-    }
-}
-
-// With Looks before loops; most registers have none there, and their code stays as it is.
-fn lift_looks(alloc: Global, slot: u32, b: u32, code: &mut Vec<Node>) -> Result<(), NoMemory>
-    ensures { OnOk result (nodes_view code.new.items ≡ lifted slot b (nodes_view code.old.items)) }
-{
-    if some_wants(b, code) {
-        lift_row(alloc, slot, b, code)?;
-    }
-    Ok(())
-}
-
-fn hoist_one(alloc: Global, slot: u32, b: u32, code: Vec<Node>) -> Result<Vec<Node>, NoMemory>
-    ensures { IfOk result (λ v. nodes_view v.items ≡ hoisted_one slot b (nodes_view code.items)) }
-{
-    let mut code = code;
-    lift_looks(alloc, slot, b, &mut code)?;
-    drop_row(alloc, b, &mut code, State::Bad)?;
-    Ok(code)
+    let marks = held_marks(alloc, bases)?;
+    let lifted = lift_row(alloc, bases, &marks, rows)?;
+    let sets = gather_each(alloc, &marks, &lifted.rows)?;
+    let start = Sets::Bads(full(alloc, marks.count)?);
+    let mut next = 0;
+    let dropped = drop_row(alloc, &marks, &sets, &mut next, lifted.rows, start)?;
+    Ok(dropped.rows)
 }

@@ -1,6 +1,6 @@
 //! The first walk: what the rounds of loops add. It goes through each node once.
 
-ghost use Rattle.std.specs.Prelude.{◌≡◌, not, ℕ, Bool, Some, IfOk, OnOk};
+ghost use Rattle.std.specs.Prelude.{◌≡◌, not, ℕ, [], Bool, Some, IfOk, OnOk};
 ghost use Rattle.struct_ir.specs.Views.{node_view, nodes_view};
 ghost use Rattle.pin_flow.specs.declared.mark.Mark.{Mark as CodeMark};
 ghost use Rattle.pin_flow.specs.Marks.{join, after, at, end_state, flow_node};
@@ -103,6 +103,21 @@ fn looped(alloc: Global, t: &Pairs, adds: &[u64], broken: &Pairs) -> Result<Pair
 {
     let head = with_added(alloc, t, adds)?;
     through(alloc, broken, &head)
+}
+
+/// What the rounds of the row's loops add, in the order in which the loops begin: a set for each.
+///
+/// # Errors
+///
+/// Only want of memory.
+pub fn gather_each(alloc: Global, marks: &Marks, rows: &[Node]) -> Result<Vec<Vec<u64>>, NoMemory>
+    requires { HaveOwnBits marks.now }
+    ensures { IfOk result (λ sets. Gathers marks.now [] sets.items (nodes_view rows.now)) }
+{
+    let mut sets = Vec::new(alloc);
+    let start = begun(alloc, marks.count)?;
+    gather_row(alloc, marks, rows, start, &mut sets)?;
+    Ok(sets)
 }
 
 /// What the rounds of the row's loops add, in the order in which the loops begin.

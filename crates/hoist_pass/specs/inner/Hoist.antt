@@ -32,35 +32,6 @@ abbrev mutual
   lifted_in slot b (next_ place) = next_ place
   lifted_in slot b (ret place temp) = ret place temp
 
--- the same in two steps: first in the rows within the nodes, which all stay
-abbrev pub lifted_within : (slot b : ℕ) → Nodes → Nodes
-lifted_within slot b no_nodes = no_nodes
-lifted_within slot b (more_nodes n rest) = more_nodes (lifted_in slot b n) (lifted_within slot b rest)
-
--- ... and then in the row itself
-abbrev pub with_looks : (slot b : ℕ) → Nodes → Nodes
-with_looks slot b no_nodes = no_nodes
-with_looks slot b (more_nodes n rest) = put (wants b n) (plain (node_place n) (look slot b)) (more_nodes n (with_looks slot b rest))
-
--- a node of the row itself is such a loop
-abbrev pub wants_here : (b : ℕ) → Nodes → Bool
-wants_here b no_nodes = false
-wants_here b (more_nodes n rest) = wants b n || wants_here b rest
-
--- some loop is one, however deep it stands
-abbrev mutual
-  pub some_wants : (b : ℕ) → Nodes → Bool
-  some_wants b no_nodes = false
-  some_wants b (more_nodes n rest) = some_wants_in b n || some_wants b rest
-
-  pub some_wants_in : (b : ℕ) → Node → Bool
-  some_wants_in b (plain place a) = false
-  some_wants_in b (if_ place temp one other) = some_wants b one || some_wants b other
-  some_wants_in b (loop place body latch) = wants b (loop place body latch) || (some_wants b body || some_wants b latch)
-  some_wants_in b (break_ place) = false
-  some_wants_in b (next_ place) = false
-  some_wants_in b (ret place temp) = false
-
 -- ---- then: no Look where its register is held, or where no path comes
 
 -- some path says no
@@ -92,21 +63,6 @@ abbrev mutual
   dropped_in b (break_ place) t = break_ place
   dropped_in b (next_ place) t = next_ place
   dropped_in b (ret place temp) t = ret place temp
-
--- the same in two steps: first in the rows within the nodes, which all stay
-abbrev pub dropped_within : (b : ℕ) → Nodes → State → Nodes
-dropped_within b no_nodes t = no_nodes
-dropped_within b (more_nodes n rest) t = more_nodes (dropped_in b n t) (dropped_within b rest (flow_node (held b) n t).on)
-
--- ... and then in the row itself
-abbrev pub needed : (b : ℕ) → Nodes → State → Nodes
-needed b no_nodes t = no_nodes
-needed b (more_nodes n rest) t = put (needs b n t) n (needed b rest (flow_node (held b) n t).on)
-
--- all nodes of the row itself stay
-abbrev pub all_needed : (b : ℕ) → Nodes → State → Bool
-all_needed b no_nodes t = true
-all_needed b (more_nodes n rest) t = needs b n t && all_needed b rest (flow_node (held b) n t).on
 
 -- ---- both, for one register after the other
 

@@ -1,12 +1,16 @@
-use Rattle.std.proofs.Common.{◌≡◌, ℕ, ◌≤◌, length, get_or, take, drop}
-use Rattle.struct_ir.specs.declared.code.Node.{Node as CodeNode}
+use Rattle.std.proofs.Common.{◌≡◌, ◌||◌, ℕ, Some}
 use Rattle.struct_ir.specs.Views.{nodes_view, followed}
-use Rattle.hoist_pass.specs.inner.Hoist.{lifted_within}
+use Rattle.pin_flow.specs.Looks.{act_looks, act_assigns, some_act}
+use Rattle.pin_flow.specs.Slots.{slot_in}
+use Rattle.mark_sets.specs.Words.{has}
+use Rattle.hoist_pass.specs.inner.Hoist.{lifted_all}
+use Rattle.hoist_pass.specs.inner.Sets.{bit}
 use Rattle.hoist_pass.proofs.lifting.+lifts.Given as goal
 
--- with what is made of the nodes that are left, which are as they were, it is what is to be made
-abbrev pub invariant-lift_within-loop-n : goal.invariant-lift_within-loop-n
-invariant-lift_within-loop-n l = record {
-  made : followed (take l.n-index l.rows) (lifted_within l.slot l.b (nodes_view (drop l.n-index l.rows))) ≡ lifted_within l.slot l.b (nodes_view l.fn.rows);
-  unvisited : (length l.rows ≡ length l.fn.rows) × ((k : ℕ) (d : CodeNode) → l.n-index ≤ k → get_or l.rows k d ≡ get_or l.fn.rows k d);
+-- with what is made of the nodes that are left, it is what is to be made; so it is with what is seen
+abbrev pub invariant-lift_row-loop-n : goal.invariant-lift_row-loop-n
+invariant-lift_row-loop-n l = record {
+  made : followed l.out.items (lifted_all (slot_in l.bases) l.bases (nodes_view l.n-iterator.rest.items)) ≡ lifted_all (slot_in l.bases) l.bases (nodes_view l.fn.rows.items);
+  looks : (b i : ℕ) → bit l.marks b ≡ Some i → (has l.seen.looks.items i || some_act (act_looks b) (nodes_view l.n-iterator.rest.items)) ≡ some_act (act_looks b) (nodes_view l.fn.rows.items);
+  assigns : (b i : ℕ) → bit l.marks b ≡ Some i → (has l.seen.assigns.items i || some_act (act_assigns b) (nodes_view l.n-iterator.rest.items)) ≡ some_act (act_assigns b) (nodes_view l.fn.rows.items);
 }
