@@ -23,12 +23,12 @@ pub invariant_of-self : goal.invariant_of-self
 invariant_of-self c =
     let kept = c.self.invariant.0 in
     let ms = c.slide.new.into.moves in
-    let stored : c.apply.new.self ≡ after_plan ms c.self.inside.arena = c.apply.ensures.after ∙ ap (λ (now : List Move). after_plan now c.self.inside.arena) c.moves.ensures in
-    let most : c.apply.new.self.heaps.most ≡ c.self.inside.arena.heaps.most = ap (λ (s : Storage). s.heaps.most) stored ∙ (plan_keeps ms c.self.inside.arena).2 in
-    let count : c.apply.new.self.heaps.count ≡ c.self.inside.arena.heaps.count = ap (λ (s : Storage). s.heaps.count) stored ∙ (plan_keeps ms c.self.inside.arena).0 in
-    let plan_room : c.slide.new.into.room ≡ c.apply.new.self.heaps.most = c.slide.ensures.room ∙ ap (λ (p : MoveList). p.room) c.clear.ensures ∙ kept.plan_room ∙ sym most in (
+    let stored : c.slide-2.new.self ≡ after_plan ms c.self.inside.arena = c.slide-2.ensures.after ∙ ap (λ (now : List Move). after_plan now c.self.inside.arena) c.moves.ensures in
+    let most : c.slide-2.new.self.heaps.most ≡ c.self.inside.arena.heaps.most = ap (λ (s : Storage). s.heaps.most) stored ∙ (plan_keeps ms c.self.inside.arena).2 in
+    let count : c.slide-2.new.self.heaps.count ≡ c.self.inside.arena.heaps.count = ap (λ (s : Storage). s.heaps.count) stored ∙ (plan_keeps ms c.self.inside.arena).0 in
+    let plan_room : c.slide.new.into.room ≡ c.slide-2.new.self.heaps.most = c.slide.ensures.room ∙ ap (λ (p : MoveList). p.room) c.clear.ensures ∙ kept.plan_room ∙ sym most in (
       record {
-        consistent = c.apply.ensures.consistent;
+        consistent = c.slide-2.ensures.consistent;
         printed = kept.printed;
         output_small = kept.output_small;
         some_thread = kept.some_thread;
@@ -58,13 +58,13 @@ returns c =
     let pins_is = pinned_is code s home pins c.len.result count c.pin_all.ensures.pinned in
     let sound : IsSound st.heaps = c.heaps.ensures.consistent.heaps in
     let slides : IsSlide (is_pinned pins) st.heaps ms = subst (λ (h : SubHeaps). IsSlide (is_pinned pins) h ms) c.heaps-2.ensures.heaps c.slide.ensures.slide in
-    let stored : c.apply.new.self ≡ after_plan ms st = c.apply.ensures.after ∙ ap (λ (now : List Move). after_plan now st) c.moves.ensures in
-    let moved : c.apply.new.self.heaps ≡ after_h = c.apply.ensures.heaps ∙ ap (λ (now : List Move). after_moves now st.heaps) c.moves.ensures in
+    let stored : c.slide-2.new.self ≡ after_plan ms st = c.slide-2.ensures.after ∙ ap (λ (now : List Move). after_plan now st) c.moves.ensures in
+    let moved : c.slide-2.new.self.heaps ≡ after_h = c.slide-2.ensures.heaps ∙ ap (λ (now : List Move). after_moves now st.heaps) c.moves.ensures in
     let n1 : c.saturating_add-self-inside.result ≡ counted (s.barriers.count + 1) = c.saturating_add-self-inside.ensures in
     let n2 : c.saturating_add-self-inside-2.result ≡ counted (s.barriers.objects + length ms) = c.saturating_add-self-inside-2.ensures ∙ ap (λ n. counted (s.barriers.objects + n)) (c.from.ensures ∙ c.len-2.ensures.number) in
     let n3 : c.saturating_add-self-inside-3.result ≡ counted (s.barriers.bytes + sum_by (λ m. m.size) ms) = c.saturating_add-self-inside-3.ensures ∙ ap (λ n. counted (s.barriers.bytes + n)) (c.bytes_of.ensures ∙ ap (λ (now : List Move). counted (sum_by (λ m. m.size) now)) c.moves-2.ensures) ∙ counted_part s.barriers.bytes (sum_by (λ m. m.size) ms) in
     let before : c.extent-before.result ≡ extent_of st.heaps = c.extent-before.ensures.extent ∙ ap extent_of c.heaps.ensures.heaps in
     let after : c.extent.result ≡ extent_of after_h = c.extent.ensures.extent ∙ ap extent_of c.heaps-3.ensures.heaps ∙ ap extent_of moved in
     let rooms : c.room.result ≡ room_of (is_pinned pins) after_h = c.room.ensures.room ∙ ap (room_of (is_pinned pins)) c.heaps-4.ensures.heaps ∙ ap (room_of (is_pinned pins)) moved in
-    parts_are s ms (is_pinned pins) c.apply.new.self c.saturating_add-self-inside.result c.saturating_add-self-inside-2.result c.saturating_add-self-inside-3.result c.extent-before.result c.extent.result c.room.result stored n1 n2 n3 before after rooms
+    parts_are s ms (is_pinned pins) c.slide-2.new.self c.saturating_add-self-inside.result c.saturating_add-self-inside-2.result c.saturating_add-self-inside-3.result c.extent-before.result c.extent.result c.room.result stored n1 n2 n3 before after rooms
     ∙ slid_by_is code s home pins ms pins_is sound slides ∙ ap (λ (v : Shared). shared_slid code v home) c.self.view_is
