@@ -141,7 +141,7 @@ module _ (pinned : ℕ → Bool) (ms : List Move) (s : Storage) (consistent : Is
   objects_there =
       All-from_recursion (λ m. IsSome (object_at m.from s.heaps.objects)) ms
       (Each-weaker (λ m. IsSomeAnd (object_at m.from s.heaps.objects) (λ o. o.size ≡ m.size)) (λ m. IsSome (object_at m.from s.heaps.objects)) (λ m there. is_there (object_at m.from s.heaps.objects) _ there) ms
-          (rising_objects pinned 0 ms s.heaps (rise_from_AllPairs 0 ms (λ d has. omega arith) slide.rising) slide.legal))
+      (rising_objects pinned 0 ms s.heaps (rise_from_AllPairs 0 ms (λ d has. omega arith) slide.rising) slide.legal))
 
   pub carried_is : record s.heaps { objects = carried ms s.heaps.objects } ≡ after_moves ms s.heaps
   carried_is = sym (after_moves_is ms s.heaps ∙ ap (λ (xs : List Object). record s.heaps { objects = xs }) slide.same_order)
