@@ -16,7 +16,7 @@ use Rattle.move_plan.specs.Sliding.{IsSlide}
 use Rattle.move_plan.proofs.Plans.{RiseFrom, IsSound-after_moves, rise_above, rise_from_AllPairs, rising_objects}
 use Rattle.move_plan.proofs.Turns.{Each-three, object_at-shifted}
 use Rattle.arena_meaning.specs.Arena.{IsConsistent, Storage}
-use Rattle.arena_meaning.specs.Moves.{after_plan, moved}
+use Rattle.arena_meaning.specs.Moves.{after_plan}
 use Rattle.defrag_move.proofs.Kept.{IsConsistent-after_plan, heaps_after, keeps_all, mover, moving, starts}
 use Rattle.defrag_move.proofs.Turns.{IsConsistent-moved_storage, allowed, drop_got, find-placed, from_small, has_from, has_to, moved_storage, owner_in_use, to_small}
 
@@ -141,7 +141,7 @@ module _ (pinned : ℕ → Bool) (ms : List Move) (s : Storage) (consistent : Is
   objects_there =
       All-from_recursion (λ m. IsSome (object_at m.from s.heaps.objects)) ms
       (Each-weaker (λ m. IsSomeAnd (object_at m.from s.heaps.objects) (λ o. o.size ≡ m.size)) (λ m. IsSome (object_at m.from s.heaps.objects)) (λ m there. is_there (object_at m.from s.heaps.objects) _ there) ms
-          (rising_objects pinned 0 ms s.heaps (rise_from_AllPairs 0 ms (λ d has. omega arith) slide.rising) slide.legal))
+      (rising_objects pinned 0 ms s.heaps (rise_from_AllPairs 0 ms (λ d has. omega arith) slide.rising) slide.legal))
 
   pub carried_is : record s.heaps { objects = carried ms s.heaps.objects } ≡ after_moves ms s.heaps
   carried_is = sym (after_moves_is ms s.heaps ∙ ap (λ (xs : List Object). record s.heaps { objects = xs }) slide.same_order)
