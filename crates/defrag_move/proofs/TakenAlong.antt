@@ -16,7 +16,7 @@ use Rattle.move_plan.specs.Sliding.{IsSlide}
 use Rattle.move_plan.proofs.Plans.{RiseFrom, IsSound-after_moves, rise_above, rise_from_AllPairs, rising_objects}
 use Rattle.move_plan.proofs.Turns.{Each-three, object_at-shifted}
 use Rattle.arena_meaning.specs.Arena.{IsConsistent, Storage}
-use Rattle.arena_meaning.specs.Moves.{after_plan, moved}
+use Rattle.arena_meaning.specs.Moves.{after_plan}
 use Rattle.defrag_move.proofs.Kept.{IsConsistent-after_plan, heaps_after, keeps_all, mover, moving, starts}
 use Rattle.defrag_move.proofs.Turns.{IsConsistent-moved_storage, allowed, drop_got, find-placed, from_small, has_from, has_to, moved_storage, owner_in_use, to_small}
 

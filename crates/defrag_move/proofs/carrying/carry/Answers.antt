@@ -1,6 +1,4 @@
-use Rattle.std.proofs.Common.{◌≡◌, ◌+◌, ap, subst}
 use Rattle.std.proofs.lemmas.Bool.{false≢true}
-use Rattle.flat_store.specs.Flat.{HasBytes}
 use Rattle.defrag_move.proofs.carrying.carry.Goals as goal
 
 pub unreachable-requires : goal.unreachable-requires

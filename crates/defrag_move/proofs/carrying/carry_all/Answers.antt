@@ -1,7 +1,6 @@
-use Rattle.std.proofs.Common.{◌≤◌, length, arith}
 use Rattle.std.proofs.lemmas.Option.{slice_get-get_or}
 use Rattle.move_plan.specs.Holding.{is_pinned}
-use Rattle.defrag_move.proofs.TakenAlong.{Carries-all, Carries-end, Carries-got, Carries-next, carry_from, carry_in_use, carry_to, object_is_there}
+use Rattle.defrag_move.proofs.TakenAlong.{Carries-all, Carries-got, Carries-next, carry_from, carry_in_use, carry_to, object_is_there}
 use Rattle.defrag_move.proofs.carrying.carry_all.Goals as goal
 
 pub loop-next-init : goal.loop-next-init
