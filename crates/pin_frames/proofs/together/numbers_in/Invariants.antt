@@ -1,4 +1,4 @@
-use Rattle.std.proofs.Common.{◌≡◌, ◌≤◌, ◌++◌, ◌-◌}
+use Rattle.std.proofs.Common.{◌≡◌, ◌++◌, ◌-◌}
 use Rattle.mark_sets.specs.Words.{has}
 use Rattle.pin_frames.specs.inner.Together.{numbers}
 use Rattle.pin_frames.proofs.together.numbers_in.Given as goal
