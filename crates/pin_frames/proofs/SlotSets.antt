@@ -1,8 +1,10 @@
 -- Registers and their slots, and the numbers in sets of slots.
-use Rattle.std.proofs.Common.{◌≡◌, ◌≢◌, ◌<◌, ◌≤◌, ◌+◌, ◌-◌, ◌/◌, ◌%◌, nat_eq, ℕ, zero, suc, List, [], ◌∷◌, ◌++◌, length, get_or, drop, map, Option, Some, None, Bool, true, false, ◌==◌, ◌||◌, ◌&&◌, if◌then◌else◌, append_assoc, inl, inr, refl, sym, ap, subst, ◌∙◌, arith}
+use Rattle.std.proofs.Common.{◌≡◌, ◌≢◌, ◌<◌, ◌≤◌, ◌+◌, ◌-◌, ◌*◌, ◌/◌, ◌%◌, ◌^◌, nat_eq, ℕ, zero, suc, List, [], ◌∷◌, ◌++◌, length, get_or, drop, map, Option, Some, None, Bool, true, false, ◌==◌, ◌||◌, ◌&&◌, if◌then◌else◌, append_assoc, inl, inr, refl, sym, ap, subst, ◌∙◌, arith}
 use Rattle.std.specs.Prelude.{not}
 use Rattle.std.proofs.lemmas.Bool.{eqb-true, eq-eqb, ne_eqb, cases_eq, cases_lt}
-use Rattle.std.proofs.lemmas.Nat.Bits.{bit_at-zero}
+use Rattle.std.proofs.lemmas.Nat.Bits.{bit_at-zero, bit_at_above}
+use Rattle.std.proofs.lemmas.Nat.{pow_pos}
+use Rattle.std.proofs.Math.Nat.{mod-lt, mod-add-div}
 use Rattle.std.specs.Int.{bit_at}
 use Rattle.std.proofs.lemmas.List.{at_drop_more}
 use Rattle.struct_ir.specs.declared.code.Place.{Place as CodePlace}
@@ -83,6 +85,43 @@ number_out f i n y out all lt e t inv =
     let r = numbers f (i + 1) (n - (i + 1)) in
     let here : numbers f i (n - i) ≡ r = numbers_step f i n lt ∙ ap (λ b. if b then i ∷ r else r) (sym e ∙ t) in
     ap (λ l. out ++ l) (sym here) ∙ inv
+
+-- numbers that aren't in it are passed over
+skipped : (f : ℕ → Bool) (n d i : ℕ) → ((j : ℕ) → i ≤ j → j < i + d → f j ≡ false) → numbers f i (n - i) ≡ numbers f (i + d) (n - (i + d))
+skipped f n zero i h = let e : i ≡ i + 0 = omega arith in ap (λ k. numbers f k (n - k)) e
+skipped f n (suc d) i h = elim (cases_lt i n) [
+  | inl lt ↦
+      (let r = numbers f (i + 1) (n - (i + 1)) in
+      let here : f i ≡ false = h i (omega arith) (omega arith) in
+      let e : (i + 1) + d ≡ i + suc d = omega arith in
+      numbers_step f i n lt
+      ∙ (ap (λ b. if b then i ∷ r else r) here ∙ (skipped f n d (i + 1) (λ j a b. h j (omega arith) (omega arith)) ∙ ap (λ k. numbers f k (n - k)) e)))
+  | inr ge ↦
+      (let a : n - i ≡ 0 = omega arith in
+      let b : n - (i + suc d) ≡ 0 = omega arith in
+      ap (numbers f i) a ∙ sym (ap (numbers f (i + suc d)) b))
+]
+
+pub pass_over : (f : ℕ → Bool) (n i k : ℕ) (out all : List ℕ) → i ≤ k → ((j : ℕ) → i ≤ j → j < k → f j ≡ false) → out ++ numbers f i (n - i) ≡ all → out ++ numbers f k (n - k) ≡ all
+pass_over f n i k out all le h inv =
+    let e : i + (k - i) ≡ k = omega arith in
+    ap (λ m. out ++ numbers f m (n - m)) (sym e) ∙ (ap (λ l. out ++ l) (sym (skipped f n (k - i) i (λ j a b. h j a (omega arith)))) ∙ inv)
+
+-- from its number on a word has no more bits
+pub rest_empty : (set : List ℕ) (i w : ℕ) → w ≡ get_or set (i / 64) 0 → w / 2 ^ (i % 64) ≡ 0 → (j : ℕ) → i ≤ j → j < (i / 64 + 1) * 64 → has set j ≡ false
+unfolding has
+rest_empty set i w e z j le lt =
+    let same : j / 64 ≡ i / 64 = omega arith in
+    let later : i % 64 ≤ j % 64 = omega arith in
+    let low : w < 2 ^ (i % 64) = below w (2 ^ (i % 64)) (pow_pos (i % 64)) z in
+    ap (λ k. nat_eq (bit_at (get_or set k 0) (j % 64)) 1) same ∙ (ap (λ x. nat_eq (bit_at x (j % 64)) 1) (sym e) ∙ ap (λ x. nat_eq x 1) (bit_at_above w (i % 64) (j % 64) low later))
+  where
+    below : (w p : ℕ) → 0 < p → w / p ≡ 0 → w < p
+    below w p pos q =
+        let m : w % p < p = mod-lt w pos in
+        let e : w % p + p * (w / p) ≡ w = mod-add-div w p in
+        let z : p * (w / p) ≡ p * 0 = ap (λ x. p * x) q in
+        omega (arith, m, e, z)
 
 -- ---- accesses
 

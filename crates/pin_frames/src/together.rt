@@ -1,6 +1,6 @@
 //! The lists of all registers at once, by what is used later.
 
-ghost use Rattle.std.specs.Prelude.{◌≡◌, ◌==◌, ◌<◌, ◌^◌, ◌||◌, ◌&&◌, ℕ, Some, true, false, length, not, IfOk, OnOk};
+ghost use Rattle.std.specs.Prelude.{◌≡◌, ◌==◌, ◌<◌, ◌≤◌, ◌^◌, ◌||◌, ◌&&◌, ℕ, Some, true, false, length, not, IfOk, OnOk};
 ghost use Rattle.struct_ir.specs.Views.{step_view, node_view, nodes_view};
 ghost use Rattle.pin_flow.specs.Live.{uses, live, live_node};
 ghost use Rattle.pin_flow.specs.Looks.{is_to};
@@ -12,7 +12,7 @@ ghost use Rattle.pin_frames.specs.inner.Together.{AreHomes, Tells, lives_in, num
 
 use crate::used::{Homes, head_used, is_home, used_act};
 use ak_words::NoMemory;
-use mark_sets::words::{contains, united};
+use mark_sets::words::{contains, united, word};
 use smallvec::SmallVec;
 use std::alloc::Global;
 use struct_ir::{Node, NodeKind, StepNode};
@@ -26,16 +26,31 @@ pub struct Walked {
     pub kept: bool,
 }
 
+// The number, or where no bit of its word is set from it on, the first number of the next word.
+fn next_from(set: &[u64], i: usize) -> usize
+    requires { i ≤ 2 ^ 32 }
+    ensures on { i ≤ result }
+    ensures none { (j : ℕ) → i ≤ j → j < result → has set.now j ≡ false }
+{
+    if word(set, i / 64) >> (i % 64) == 0 {
+        (i / 64 + 1) * 64
+    } else {
+        i
+    }
+}
+
 // Those of the numbers below `count` that are in the set.
 fn numbers_in(alloc: Global, set: &[u64], count: usize) -> Result<Vec<u32>, NoMemory>
     requires { count < 2 ^ 32 }
     ensures { IfOk result (λ v. v.items ≡ numbers (has set.now) 0 count) }
 {
     let mut out = Vec::new(alloc);
-    'numbers: for i in 0..count {
+    let mut i = 0;
+    'numbers: while i < count {
         if contains(set, i) {
             out.push(i as u32)?;
         }
+        i = next_from(set, i + 1);
     }
     Ok(out)
 }
