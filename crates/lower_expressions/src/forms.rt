@@ -113,12 +113,40 @@ pub fn member_nodes(
     sets(out, place, t, Calc::PtrAdd(t, w, 1))
 }
 
-/// A conversion.
-pub fn converts(out: &mut Vec<Node>, place: u32, ty: &CType, t: u32) -> Result<(), NoMemory>
-    ensures { OnOk result ((rest : Nodes) → followed out.new.items rest ≡ followed out.old.items (forms.converts place (type_view ty.now) t rest)) }
+fn same_type(s: IntType, t: IntType) -> bool
+    ensures { result ≡ same_type s t }
+{
+    s.bits == t.bits && s.signed == t.signed
+}
+
+// The number in `t`, of the type `from`, becomes one of type `to`.
+fn becomes(
+    out: &mut Vec<Node>,
+    place: u32,
+    from: IntType,
+    to: IntType,
+    t: u32,
+) -> Result<(), NoMemory>
+    ensures { OnOk result ((rest : Nodes) → followed out.new.items rest ≡ followed out.old.items (forms.becomes place from to t rest)) }
+{
+    if same_type(from, to) {
+        return Ok(());
+    }
+    sets(out, place, t, Calc::Convert(to, t))
+}
+
+/// A conversion from one type to another.
+pub fn converts(
+    out: &mut Vec<Node>,
+    place: u32,
+    from: &CType,
+    ty: &CType,
+    t: u32,
+) -> Result<(), NoMemory>
+    ensures { OnOk result ((rest : Nodes) → followed out.new.items rest ≡ followed out.old.items (forms.converts place (type_view from.now) (type_view ty.now) t rest)) }
 {
     match ty {
-        CType::Int(to) => sets(out, place, t, Calc::Convert(*to, t)),
+        CType::Int(to) => becomes(out, place, number_type(from), *to, t),
         _ => Ok(()),
     }
 }
@@ -552,28 +580,6 @@ fn moves(op: Op, p: u32, n: u32, scale: u32) -> Calc
         Op::Sub => Calc::PtrSub(p, n, scale),
         _ => Calc::PtrAdd(p, n, scale),
     }
-}
-
-fn same_type(s: IntType, t: IntType) -> bool
-    ensures { result ≡ same_type s t }
-{
-    s.bits == t.bits && s.signed == t.signed
-}
-
-// The number in `t`, of the type `from`, becomes one of type `to`.
-fn becomes(
-    out: &mut Vec<Node>,
-    place: u32,
-    from: IntType,
-    to: IntType,
-    t: u32,
-) -> Result<(), NoMemory>
-    ensures { OnOk result ((rest : Nodes) → followed out.new.items rest ≡ followed out.old.items (forms.becomes place from to t rest)) }
-{
-    if same_type(from, to) {
-        return Ok(());
-    }
-    sets(out, place, t, Calc::Convert(to, t))
 }
 
 // `a op b` of two numbers, of which `a` has the type `ty` and `b` the type `by`.

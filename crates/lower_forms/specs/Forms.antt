@@ -196,21 +196,25 @@ local_place place number t (Some object) rest = object_nodes place object t rest
 abbrev pub member_nodes : (place offset w t : ℕ) → Nodes → Nodes
 member_nodes place offset w t rest = sets_long place w offset (sets place t (ir.pointer_add t w 1) rest)
 
--- a conversion: of a pointer it is nothing (C11 6.3)
-abbrev pub converts : (place : ℕ) → tree.Ty → (t : ℕ) → Nodes → Nodes
-converts place (tree.integer s) t rest = sets place t (ir.convert s t) rest
-converts place ty t rest = rest
-
--- the sum of a pointer and a number of elements, of which the first stands in t and the other in u
-abbrev pub sum_calc : (pointer_first : Bool) → (t u size : ℕ) → Calc
-sum_calc true t u size = ir.pointer_add t u size
-sum_calc false t u size = ir.pointer_add u t size
-
 -- the type of the numbers of an operand or of an object, also of an atomic one; where it's asked, a well formed tree has no other
 abbrev pub number_type : tree.Ty → IntType
 number_type (tree.integer t) = t
 number_type (tree.atomic t) = t
 number_type ty = int
+
+-- the number in the register t becomes one of another type; nothing is done where that is its own (C11 6.3.1.3)
+abbrev pub becomes : (place : ℕ) → (from to : IntType) → (t : ℕ) → Nodes → Nodes
+becomes place from to t rest = if same_type from to then rest else sets place t (ir.convert to t) rest
+
+-- a conversion from one type to another: of a pointer it is nothing (C11 6.3)
+abbrev pub converts : (place : ℕ) → (from to : tree.Ty) → (t : ℕ) → Nodes → Nodes
+converts place from (tree.integer s) t rest = becomes place (number_type from) s t rest
+converts place from to t rest = rest
+
+-- the sum of a pointer and a number of elements, of which the first stands in t and the other in u
+abbrev pub sum_calc : (pointer_first : Bool) → (t u size : ℕ) → Calc
+sum_calc true t u size = ir.pointer_add t u size
+sum_calc false t u size = ir.pointer_add u t size
 
 -- the type of the numbers to which a pointer of this type leads
 abbrev pub pointed_number : tree.Ty → IntType
@@ -304,7 +308,7 @@ abbrev mutual
       (loads place ty (member_reach (member_offset f.structs (tree.type_of e) number) (reach f e)) t rest))
   value_nodes f place ty (tree.address_of e) t rest = place_nodes f e t rest
   value_nodes f place ty (tree.decay e) t rest = place_nodes f e t rest
-  value_nodes f place ty (tree.convert e) t rest = expr_nodes f e t (converts place ty t rest)
+  value_nodes f place ty (tree.convert e) t rest = expr_nodes f e t (converts place (tree.type_of e) ty t rest)
   value_nodes f place ty (tree.not_ e) t rest = expr_nodes f e t (sets_truth place t 0 1 rest)
   value_nodes f place ty (tree.binary op a b) t rest =
       expr_nodes f a t (expr_nodes f b (suc t) (sets place t (ir.apply op (number_type (tree.type_of a)) t (suc t)) rest))
@@ -445,10 +449,6 @@ assign_nodes f place (Some number) left right t rest = expr_nodes f right t (set
 abbrev pub moves : Op → (p n scale : ℕ) → Calc
 moves ops.Sub p n scale = ir.pointer_sub p n scale
 moves op p n scale = ir.pointer_add p n scale
-
--- the number in the register t becomes one of another type; nothing is done where that is its own (C11 6.3.1.3)
-abbrev pub becomes : (place : ℕ) → (from to : IntType) → (t : ℕ) → Nodes → Nodes
-becomes place from to t rest = if same_type from to then rest else sets place t (ir.convert to t) rest
 
 -- a op b, of which x and y hold the numbers, of the types a and b, comes to `to` as a number of type a; x and y take what they become
 -- (C11 6.5.16.2)
