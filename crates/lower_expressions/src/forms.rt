@@ -6,6 +6,7 @@ ghost use Rattle.c_tree.specs.Typed.{print, mutex_init, atomic_swap, atomic_comp
 ghost use Rattle.c_tree.specs.TypedViews.{type_view, layout_view, expr_view, lib_view, piece_view};
 ghost use Rattle.c_meaning.specs.Values.{access_of_type, operand_types};
 ghost use Rattle.struct_ir.specs.Nodes.{Nodes, copy, copy_bytes, load, store, change};
+ghost use Rattle.struct_ir.specs.meaning.Blocks.{same_type};
 ghost use Rattle.struct_ir.specs.Views.{place_view, calc_view, action_view, followed};
 ghost use Rattle.lower_forms.specs.Forms as forms;
 ghost use Rattle.lower_forms.specs.Forms.{sized_copy};
@@ -112,12 +113,40 @@ pub fn member_nodes(
     sets(out, place, t, Calc::PtrAdd(t, w, 1))
 }
 
-/// A conversion.
-pub fn converts(out: &mut Vec<Node>, place: u32, ty: &CType, t: u32) -> Result<(), NoMemory>
-    ensures { OnOk result ((rest : Nodes) → followed out.new.items rest ≡ followed out.old.items (forms.converts place (type_view ty.now) t rest)) }
+fn same_type(s: IntType, t: IntType) -> bool
+    ensures { result ≡ same_type s t }
+{
+    s.bits == t.bits && s.signed == t.signed
+}
+
+// The number in `t`, of the type `from`, becomes one of type `to`.
+fn becomes(
+    out: &mut Vec<Node>,
+    place: u32,
+    from: IntType,
+    to: IntType,
+    t: u32,
+) -> Result<(), NoMemory>
+    ensures { OnOk result ((rest : Nodes) → followed out.new.items rest ≡ followed out.old.items (forms.becomes place from to t rest)) }
+{
+    if same_type(from, to) {
+        return Ok(());
+    }
+    sets(out, place, t, Calc::Convert(to, t))
+}
+
+/// A conversion from one type to another.
+pub fn converts(
+    out: &mut Vec<Node>,
+    place: u32,
+    from: &CType,
+    ty: &CType,
+    t: u32,
+) -> Result<(), NoMemory>
+    ensures { OnOk result ((rest : Nodes) → followed out.new.items rest ≡ followed out.old.items (forms.converts place (type_view from.now) (type_view ty.now) t rest)) }
 {
     match ty {
-        CType::Int(to) => sets(out, place, t, Calc::Convert(*to, t)),
+        CType::Int(to) => becomes(out, place, number_type(from), *to, t),
         _ => Ok(()),
     }
 }
@@ -553,7 +582,7 @@ fn moves(op: Op, p: u32, n: u32, scale: u32) -> Calc
     }
 }
 
-// `a op b` of two numbers, of which `a` has the type `ty`.
+// `a op b` of two numbers, of which `a` has the type `ty` and `b` the type `by`.
 fn number_update(
     out: &mut Vec<Node>,
     place: u32,
@@ -564,13 +593,13 @@ fn number_update(
     y: u32,
     to: u32,
 ) -> Result<(), NoMemory>
-    ensures { OnOk result ((rest : Nodes) → followed out.new.items rest ≡ followed out.old.items (forms.number_update place op ty (operand_types op ty by) x y to rest)) }
+    ensures { OnOk result ((rest : Nodes) → followed out.new.items rest ≡ followed out.old.items (forms.number_update place op ty by (operand_types op ty by) x y to rest)) }
 {
     let (left, right) = operand_types(op, ty, by);
-    sets(out, place, x, Calc::Convert(left, x))?;
-    sets(out, place, y, Calc::Convert(right, y))?;
-    sets(out, place, x, Calc::Apply(op, left, x, y))?;
-    sets(out, place, to, Calc::Convert(ty, x))
+    becomes(out, place, ty, left, x)?;
+    becomes(out, place, by, right, y)?;
+    sets(out, place, to, Calc::Apply(op, left, x, y))?;
+    becomes(out, place, left, ty, to)
 }
 
 /// `a op b` of the registers `x` and `y` comes to `to`, converted to the type of `a`.

@@ -21,7 +21,7 @@ pub fn unary_nodes(alloc: Global, out: &mut Vec<Node>, e: &Expr, t: u32) -> Resu
     ensures { OnOk result ((rest : Nodes) → followed out.new.items rest ≡ followed out.old.items (unary_nodes e.now.place (type_view e.now.ty) (expr_node_view e.now.node) t rest)) }
 {
     match &e.node {
-        ExprNode::Convert(_) => converts(out, e.place, &e.ty, t),
+        ExprNode::Convert(from) => converts(out, e.place, &from.ty, &e.ty, t),
         ExprNode::Not(_) => sets_truth(alloc, out, e.place, t, 0, 1),
         ExprNode::PtrTest(_) => sets(out, e.place, t, Calc::PtrTest(t)),
         _ => Ok(()),

@@ -1,9 +1,11 @@
 -- The code of expressions is small.
 use Rattle.std.proofs.Common.{ℕ, suc, ◌+◌, ◌*◌, ◌≤◌, Bool, true, false, if◌then◌else◌, Option, Some, None, arith}
+use Rattle.ak_words.specs.declared.int_type.IntType.{IntType}
 use Rattle.c_tree.specs.Typed as tree
 use Rattle.c_meaning.specs.Values.{is_scalar}
 use Rattle.struct_ir.specs.Nodes.{Act, Nodes, no_nodes, more_nodes, plain}
-use Rattle.lower_forms.specs.Forms.{Frame, home, branches, is_void, local_value, local_place, converts, lib_nodes, expr_nodes, value_nodes, place_nodes, object_place, args_nodes, dropped_nodes, dropped_value}
+use Rattle.struct_ir.specs.meaning.Blocks.{same_type}
+use Rattle.lower_forms.specs.Forms.{Frame, home, branches, is_void, local_value, local_place, number_type, becomes, converts, lib_nodes, expr_nodes, value_nodes, place_nodes, object_place, args_nodes, dropped_nodes, dropped_value}
 use Rattle.lower_forms.specs.Sizes.{nodes_in, expr_size, expr_parts, args_size}
 
 -- the first row is the second with at most so many nodes before it
@@ -29,6 +31,9 @@ pub cost_either : (b : Bool) (x y : Nodes) (a : ℕ) (q : Nodes) → AtMost x a 
 cost_either true x y a q h k = h
 cost_either false x y a q h k = k
 
+pub cost_becomes : (place : ℕ) (s u : IntType) (t : ℕ) (rest : Nodes) → AtMost (becomes place s u t rest) 1 rest
+cost_becomes place s u t rest = cost_either (same_type s u) _ _ _ _ (cost_weak _ _ _ _ (cost_same rest) (omega arith)) (cost_one _ _ _)
+
 module _ (f : Frame) where
   cost_local : (place : ℕ) (ty : tree.Ty) (m t : ℕ) (o : Option ℕ) (rest : Nodes) → AtMost (local_value place ty m t o rest) (3) rest
   cost_local place ty m t None rest = cost_weak _ _ _ _ (cost_step _ _ _ _ _ (cost_one _ _ _) (cost_same _)) (omega arith)
@@ -38,14 +43,14 @@ module _ (f : Frame) where
   cost_local_place place m t None rest = cost_weak _ _ _ _ (cost_step _ _ _ _ _ (cost_one _ _ _) (cost_same _)) (omega arith)
   cost_local_place place m t (Some k) rest = cost_weak _ _ _ _ (cost_step _ _ _ _ _ (cost_one _ _ _) (cost_step _ _ _ _ _ (cost_one _ _ _) (cost_same _))) (omega arith)
 
-  cost_converts : (place : ℕ) (ty : tree.Ty) (t : ℕ) (rest : Nodes) → AtMost (converts place ty t rest) (1) rest
-  cost_converts place tree.void t rest = cost_weak _ _ _ _ (cost_same _) (omega arith)
-  cost_converts place (tree.integer s) t rest = cost_weak _ _ _ _ (cost_step _ _ _ _ _ (cost_one _ _ _) (cost_same _)) (omega arith)
-  cost_converts place (tree.atomic s) t rest = cost_weak _ _ _ _ (cost_same _) (omega arith)
-  cost_converts place tree.mutex t rest = cost_weak _ _ _ _ (cost_same _) (omega arith)
-  cost_converts place (tree.pointer s) t rest = cost_weak _ _ _ _ (cost_same _) (omega arith)
-  cost_converts place (tree.array s m) t rest = cost_weak _ _ _ _ (cost_same _) (omega arith)
-  cost_converts place (tree.structure m) t rest = cost_weak _ _ _ _ (cost_same _) (omega arith)
+  cost_converts : (place : ℕ) (from ty : tree.Ty) (t : ℕ) (rest : Nodes) → AtMost (converts place from ty t rest) (1) rest
+  cost_converts place from tree.void t rest = cost_weak _ _ _ _ (cost_same _) (omega arith)
+  cost_converts place from (tree.integer s) t rest = cost_becomes place (number_type from) s t rest
+  cost_converts place from (tree.atomic s) t rest = cost_weak _ _ _ _ (cost_same _) (omega arith)
+  cost_converts place from tree.mutex t rest = cost_weak _ _ _ _ (cost_same _) (omega arith)
+  cost_converts place from (tree.pointer s) t rest = cost_weak _ _ _ _ (cost_same _) (omega arith)
+  cost_converts place from (tree.array s m) t rest = cost_weak _ _ _ _ (cost_same _) (omega arith)
+  cost_converts place from (tree.structure m) t rest = cost_weak _ _ _ _ (cost_same _) (omega arith)
 
   cost_lib : (place : ℕ) (which : tree.Lib) (es : tree.Exprs) (t : ℕ) (rest : Nodes) → AtMost (lib_nodes place which es t rest) (5) rest
   cost_lib place (tree.print pieces) es t rest = cost_weak _ _ _ _ (cost_step _ _ _ _ _ (cost_one _ _ _) (cost_same _)) (omega arith)
@@ -80,7 +85,7 @@ module _ (f : Frame) where
     cost_value place ty (tree.member e m) t rest = cost_weak _ _ _ _ (cost_step _ _ _ _ _ (cost_place e t _) (cost_step _ _ _ _ _ (cost_one _ _ _) (cost_step _ _ _ _ _ (cost_one _ _ _) (cost_step _ _ _ _ _ (cost_one _ _ _) (cost_same _))))) (omega arith)
     cost_value place ty (tree.address_of e) t rest = cost_weak _ _ _ _ (cost_step _ _ _ _ _ (cost_place e t _) (cost_same _)) (omega arith)
     cost_value place ty (tree.decay e) t rest = cost_weak _ _ _ _ (cost_step _ _ _ _ _ (cost_place e t _) (cost_same _)) (omega arith)
-    cost_value place ty (tree.convert e) t rest = cost_weak _ _ _ _ (cost_step _ _ _ _ _ (cost_expr e t _) (cost_step _ _ _ _ _ (cost_converts place ty t rest) (cost_same _))) (omega arith)
+    cost_value place ty (tree.convert e) t rest = cost_weak _ _ _ _ (cost_step _ _ _ _ _ (cost_expr e t _) (cost_step _ _ _ _ _ (cost_converts place (tree.type_of e) ty t rest) (cost_same _))) (omega arith)
     cost_value place ty (tree.not_ e) t rest = cost_weak _ _ _ _ (cost_step _ _ _ _ _ (cost_expr e t _) (cost_step _ _ _ _ _ (cost_branch _ _ _ _ _ _ _ (cost_step _ _ _ _ _ (cost_one _ _ _) (cost_same _)) (cost_step _ _ _ _ _ (cost_one _ _ _) (cost_same _))) (cost_same _))) (omega arith)
     cost_value place ty (tree.binary op a b) t rest = cost_weak _ _ _ _ (cost_step _ _ _ _ _ (cost_expr a t _) (cost_step _ _ _ _ _ (cost_expr b (suc t) _) (cost_step _ _ _ _ _ (cost_one _ _ _) (cost_same _)))) (omega arith)
     cost_value place ty (tree.and_also a b) t rest = cost_weak _ _ _ _ (cost_step _ _ _ _ _ (cost_expr a t _) (cost_step _ _ _ _ _ (cost_branch _ _ _ _ _ _ _ (cost_step _ _ _ _ _ (cost_expr b t _) (cost_step _ _ _ _ _ (cost_branch _ _ _ _ _ _ _ (cost_step _ _ _ _ _ (cost_one _ _ _) (cost_same _)) (cost_step _ _ _ _ _ (cost_one _ _ _) (cost_same _))) (cost_same _))) (cost_step _ _ _ _ _ (cost_one _ _ _) (cost_same _))) (cost_same _))) (omega arith)

@@ -5,14 +5,14 @@ use Rattle.std.specs.Prelude.{nat_le, slice_get}
 use Rattle.ak_words.specs.declared.int_type.IntType.{IntType}
 use Rattle.ak_words.specs.declared.operation.Op.{Op}
 use Rattle.c_tree.specs.Typed as tree
-use Rattle.c_meaning.specs.Values.{is_atomic, is_minus}
+use Rattle.c_meaning.specs.Values.{is_atomic, operand_types, is_minus}
 use Rattle.c_meaning.specs.Switches.{stands_at}
 use Rattle.c_meaning.specs.Turns.{is_struct}
 use Rattle.struct_ir.specs.Nodes.{Place, Nodes, no_nodes, more_nodes, loop, break_, next_, ret}
-use Rattle.lower_forms.specs.Forms.{Frame, home, home_or_none, looped, switched, first_temp, begins, ends, with_home, declared_home, home_in, objects_by, objects_in, initialises, store_nodes, copy_nodes, own_register, assign_nodes, computes, change_nodes, update_by, update_nodes, equal_nodes, choose_nodes, begin_nodes, begin_if, label_nodes, stmt_place, guarded, break_nodes, test_nodes, declare_nodes, return_nodes, stmt_nodes, form_nodes, row_nodes, switch_nodes}
+use Rattle.lower_forms.specs.Forms.{Frame, home, home_or_none, looped, switched, first_temp, begins, ends, with_home, declared_home, home_in, objects_by, objects_in, initialises, store_nodes, copy_nodes, own_register, assign_nodes, number_type, computes, change_nodes, update_by, update_nodes, equal_nodes, choose_nodes, begin_nodes, begin_if, label_nodes, stmt_place, guarded, break_nodes, test_nodes, declare_nodes, return_nodes, stmt_nodes, form_nodes, row_nodes, switch_nodes}
 use Rattle.lower_forms.specs.Sizes.{nodes_in, expr_size, size_if, stmt_size, stmt_parts, row_size, one_if, begun, begun_by, begun_in}
 use Rattle.lower_forms.proofs.Growth.{times_suc, times_plus, grows_five, grows_eight}
-use Rattle.lower_forms.proofs.CostExprs.{AtMost, cost_step, cost_weak, cost_same, cost_one, cost_branch, cost_either, cost_expr, cost_place, cost_dropped}
+use Rattle.lower_forms.proofs.CostExprs.{AtMost, cost_step, cost_weak, cost_same, cost_one, cost_branch, cost_either, cost_becomes, cost_expr, cost_place, cost_dropped}
 
 cost_loop : (place : ℕ) (body latch rest : Nodes) (a b : ℕ) → AtMost body a no_nodes → AtMost latch b no_nodes → AtMost (more_nodes (loop place body latch) rest) (suc (a + b)) rest
 cost_loop place body latch rest a b h k = record { most = omega (arith, h.most, k.most) }
@@ -41,7 +41,9 @@ cost_initialises place (Some k) n t ty rest = cost_weak _ _ _ _ (cost_step _ _ _
 cost_computes : (structs : List tree.Layout) (place : ℕ) (op : Op) (u v : tree.Ty) (m n to : ℕ) (rest : Nodes) → AtMost (computes structs place op u v m n to rest) 4 rest
 cost_computes structs place op tree.void v m n to rest = cost_weak _ _ _ _ (cost_one _ _ _) (omega arith)
 cost_computes structs place op (tree.integer u) v m n to rest =
-    cost_weak _ _ _ _ (cost_step _ _ _ _ _ (cost_one _ _ _) (cost_step _ _ _ _ _ (cost_one _ _ _) (cost_step _ _ _ _ _ (cost_one _ _ _) (cost_one _ _ _)))) (omega arith)
+    let types = operand_types op u (number_type v) in
+    cost_weak _ _ _ _ (cost_step _ _ _ _ _ (cost_becomes place u types.0 m _) (cost_step _ _ _ _ _ (cost_becomes place (number_type v) types.1 n _)
+    (cost_step _ _ _ _ _ (cost_one _ _ _) (cost_becomes place types.0 u to rest)))) (omega arith)
 cost_computes structs place op (tree.atomic u) v m n to rest = cost_weak _ _ _ _ (cost_one _ _ _) (omega arith)
 cost_computes structs place op tree.mutex v m n to rest = cost_weak _ _ _ _ (cost_one _ _ _) (omega arith)
 cost_computes structs place op (tree.pointer u) v m n to rest = cost_weak _ _ _ _ (cost_one _ _ _) (omega arith)

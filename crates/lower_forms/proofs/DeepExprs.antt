@@ -1,10 +1,12 @@
 -- The code of expressions is not deep.
 use Rattle.std.proofs.Common.{ℕ, suc, ◌*◌, ◌≤◌, Bool, true, false, if◌then◌else◌, Option, Some, None, arith}
 use Rattle.std.specs.Prelude.{max}
+use Rattle.ak_words.specs.declared.int_type.IntType.{IntType}
 use Rattle.c_tree.specs.Typed as tree
 use Rattle.c_meaning.specs.Values.{is_scalar}
 use Rattle.struct_ir.specs.Nodes.{Act, Nodes, no_nodes, more_nodes, plain}
-use Rattle.lower_forms.specs.Forms.{Frame, home, branches, is_void, local_value, local_place, converts, lib_nodes, expr_nodes, value_nodes, place_nodes, object_place, args_nodes, dropped_nodes, dropped_value}
+use Rattle.struct_ir.specs.meaning.Blocks.{same_type}
+use Rattle.lower_forms.specs.Forms.{Frame, home, branches, is_void, local_value, local_place, number_type, becomes, converts, lib_nodes, expr_nodes, value_nodes, place_nodes, object_place, args_nodes, dropped_nodes, dropped_value}
 use Rattle.lower_forms.specs.Sizes.{nested_in, expr_depth, depth_inside, args_depth}
 
 -- the first row is the second with nodes before it that are nested at most so deep
@@ -30,6 +32,9 @@ pub deep_either : (b : Bool) (x y : Nodes) (a : ℕ) (q : Nodes) → NoDeeper x 
 deep_either true x y a q h k = h
 deep_either false x y a q h k = k
 
+pub deep_becomes : (place : ℕ) (s u : IntType) (t : ℕ) (rest : Nodes) → NoDeeper (becomes place s u t rest) 1 rest
+deep_becomes place s u t rest = deep_either (same_type s u) _ _ _ _ (deep_weak _ _ _ _ (deep_same rest) (omega arith)) (deep_one _ _ _)
+
 module _ (f : Frame) where
   deep_local : (place : ℕ) (ty : tree.Ty) (m t : ℕ) (o : Option ℕ) (rest : Nodes) → NoDeeper (local_value place ty m t o rest) (1) rest
   deep_local place ty m t None rest = deep_weak _ _ _ _ (deep_step _ _ _ _ _ (deep_one _ _ _) (deep_same _)) (omega arith)
@@ -39,14 +44,14 @@ module _ (f : Frame) where
   deep_local_place place m t None rest = deep_weak _ _ _ _ (deep_step _ _ _ _ _ (deep_one _ _ _) (deep_same _)) (omega arith)
   deep_local_place place m t (Some k) rest = deep_weak _ _ _ _ (deep_step _ _ _ _ _ (deep_one _ _ _) (deep_step _ _ _ _ _ (deep_one _ _ _) (deep_same _))) (omega arith)
 
-  deep_converts : (place : ℕ) (ty : tree.Ty) (t : ℕ) (rest : Nodes) → NoDeeper (converts place ty t rest) (1) rest
-  deep_converts place tree.void t rest = deep_weak _ _ _ _ (deep_same _) (omega arith)
-  deep_converts place (tree.integer s) t rest = deep_weak _ _ _ _ (deep_step _ _ _ _ _ (deep_one _ _ _) (deep_same _)) (omega arith)
-  deep_converts place (tree.atomic s) t rest = deep_weak _ _ _ _ (deep_same _) (omega arith)
-  deep_converts place tree.mutex t rest = deep_weak _ _ _ _ (deep_same _) (omega arith)
-  deep_converts place (tree.pointer s) t rest = deep_weak _ _ _ _ (deep_same _) (omega arith)
-  deep_converts place (tree.array s m) t rest = deep_weak _ _ _ _ (deep_same _) (omega arith)
-  deep_converts place (tree.structure m) t rest = deep_weak _ _ _ _ (deep_same _) (omega arith)
+  deep_converts : (place : ℕ) (from ty : tree.Ty) (t : ℕ) (rest : Nodes) → NoDeeper (converts place from ty t rest) (1) rest
+  deep_converts place from tree.void t rest = deep_weak _ _ _ _ (deep_same _) (omega arith)
+  deep_converts place from (tree.integer s) t rest = deep_becomes place (number_type from) s t rest
+  deep_converts place from (tree.atomic s) t rest = deep_weak _ _ _ _ (deep_same _) (omega arith)
+  deep_converts place from tree.mutex t rest = deep_weak _ _ _ _ (deep_same _) (omega arith)
+  deep_converts place from (tree.pointer s) t rest = deep_weak _ _ _ _ (deep_same _) (omega arith)
+  deep_converts place from (tree.array s m) t rest = deep_weak _ _ _ _ (deep_same _) (omega arith)
+  deep_converts place from (tree.structure m) t rest = deep_weak _ _ _ _ (deep_same _) (omega arith)
 
   deep_lib : (place : ℕ) (which : tree.Lib) (es : tree.Exprs) (t : ℕ) (rest : Nodes) → NoDeeper (lib_nodes place which es t rest) (1) rest
   deep_lib place (tree.print pieces) es t rest = deep_weak _ _ _ _ (deep_step _ _ _ _ _ (deep_one _ _ _) (deep_same _)) (omega arith)
@@ -81,7 +86,7 @@ module _ (f : Frame) where
     deep_value place ty (tree.member e m) t rest = deep_weak _ _ _ _ (deep_step _ _ _ _ _ (deep_place e t _) (deep_step _ _ _ _ _ (deep_one _ _ _) (deep_step _ _ _ _ _ (deep_one _ _ _) (deep_step _ _ _ _ _ (deep_one _ _ _) (deep_same _))))) (omega arith)
     deep_value place ty (tree.address_of e) t rest = deep_weak _ _ _ _ (deep_step _ _ _ _ _ (deep_place e t _) (deep_same _)) (omega arith)
     deep_value place ty (tree.decay e) t rest = deep_weak _ _ _ _ (deep_step _ _ _ _ _ (deep_place e t _) (deep_same _)) (omega arith)
-    deep_value place ty (tree.convert e) t rest = deep_weak _ _ _ _ (deep_step _ _ _ _ _ (deep_expr e t _) (deep_step _ _ _ _ _ (deep_converts place ty t rest) (deep_same _))) (omega arith)
+    deep_value place ty (tree.convert e) t rest = deep_weak _ _ _ _ (deep_step _ _ _ _ _ (deep_expr e t _) (deep_step _ _ _ _ _ (deep_converts place (tree.type_of e) ty t rest) (deep_same _))) (omega arith)
     deep_value place ty (tree.not_ e) t rest = deep_weak _ _ _ _ (deep_step _ _ _ _ _ (deep_expr e t _) (deep_step _ _ _ _ _ (deep_branch _ _ _ _ _ _ _ (deep_step _ _ _ _ _ (deep_one _ _ _) (deep_same _)) (deep_step _ _ _ _ _ (deep_one _ _ _) (deep_same _))) (deep_same _))) (omega arith)
     deep_value place ty (tree.binary op a b) t rest = deep_weak _ _ _ _ (deep_step _ _ _ _ _ (deep_expr a t _) (deep_step _ _ _ _ _ (deep_expr b (suc t) _) (deep_step _ _ _ _ _ (deep_one _ _ _) (deep_same _)))) (omega arith)
     deep_value place ty (tree.and_also a b) t rest = deep_weak _ _ _ _ (deep_step _ _ _ _ _ (deep_expr a t _) (deep_step _ _ _ _ _ (deep_branch _ _ _ _ _ _ _ (deep_step _ _ _ _ _ (deep_expr b t _) (deep_step _ _ _ _ _ (deep_branch _ _ _ _ _ _ _ (deep_step _ _ _ _ _ (deep_one _ _ _) (deep_same _)) (deep_step _ _ _ _ _ (deep_one _ _ _) (deep_same _))) (deep_same _))) (deep_step _ _ _ _ _ (deep_one _ _ _) (deep_same _))) (deep_same _))) (omega arith)

@@ -4,13 +4,13 @@ use Rattle.std.specs.Prelude.{max}
 use Rattle.ak_words.specs.declared.int_type.IntType.{IntType}
 use Rattle.ak_words.specs.declared.operation.Op.{Op}
 use Rattle.c_tree.specs.Typed as tree
-use Rattle.c_meaning.specs.Values.{is_atomic, is_minus}
+use Rattle.c_meaning.specs.Values.{is_atomic, operand_types, is_minus}
 use Rattle.c_meaning.specs.Switches.{stands_at}
 use Rattle.c_meaning.specs.Turns.{is_struct}
 use Rattle.struct_ir.specs.Nodes.{Place, Nodes, no_nodes, more_nodes, loop, break_, next_, ret}
-use Rattle.lower_forms.specs.Forms.{Frame, home, looped, switched, first_temp, begins, ends, objects_by, objects_in, initialises, store_nodes, copy_nodes, own_register, assign_nodes, computes, change_nodes, update_by, update_nodes, equal_nodes, choose_nodes, begin_if, label_nodes, stmt_place, guarded, break_nodes, test_nodes, declare_nodes, return_nodes, stmt_nodes, form_nodes, row_nodes, switch_nodes}
+use Rattle.lower_forms.specs.Forms.{Frame, home, looped, switched, first_temp, begins, ends, objects_by, objects_in, initialises, store_nodes, copy_nodes, own_register, assign_nodes, number_type, computes, change_nodes, update_by, update_nodes, equal_nodes, choose_nodes, begin_if, label_nodes, stmt_place, guarded, break_nodes, test_nodes, declare_nodes, return_nodes, stmt_nodes, form_nodes, row_nodes, switch_nodes}
 use Rattle.lower_forms.specs.Sizes.{expr_depth, depth_if, stmt_depth, stmt_inside, row_depth}
-use Rattle.lower_forms.proofs.DeepExprs.{NoDeeper, deep_step, deep_weak, deep_same, deep_one, deep_branch, deep_either, deep_expr, deep_place, deep_dropped}
+use Rattle.lower_forms.proofs.DeepExprs.{NoDeeper, deep_step, deep_weak, deep_same, deep_one, deep_branch, deep_either, deep_becomes, deep_expr, deep_place, deep_dropped}
 
 deep_loop : (place : ℕ) (body latch rest : Nodes) (a b : ℕ) → NoDeeper body a no_nodes → NoDeeper latch b no_nodes → NoDeeper (more_nodes (loop place body latch) rest) (suc (max a b)) rest
 deep_loop place body latch rest a b h k = record { most = omega (arith, h.most, k.most) }
@@ -39,7 +39,9 @@ deep_initialises place (Some k) n t ty rest = deep_weak _ _ _ _ (deep_step _ _ _
 deep_computes : (structs : List tree.Layout) (place : ℕ) (op : Op) (u v : tree.Ty) (m n to : ℕ) (rest : Nodes) → NoDeeper (computes structs place op u v m n to rest) 1 rest
 deep_computes structs place op tree.void v m n to rest = deep_one _ _ _
 deep_computes structs place op (tree.integer u) v m n to rest =
-    deep_weak _ _ _ _ (deep_step _ _ _ _ _ (deep_one _ _ _) (deep_step _ _ _ _ _ (deep_one _ _ _) (deep_step _ _ _ _ _ (deep_one _ _ _) (deep_one _ _ _)))) (omega arith)
+    let types = operand_types op u (number_type v) in
+    deep_weak _ _ _ _ (deep_step _ _ _ _ _ (deep_becomes place u types.0 m _) (deep_step _ _ _ _ _ (deep_becomes place (number_type v) types.1 n _)
+    (deep_step _ _ _ _ _ (deep_one _ _ _) (deep_becomes place types.0 u to rest)))) (omega arith)
 deep_computes structs place op (tree.atomic u) v m n to rest = deep_one _ _ _
 deep_computes structs place op tree.mutex v m n to rest = deep_one _ _ _
 deep_computes structs place op (tree.pointer u) v m n to rest = deep_one _ _ _

@@ -18,9 +18,9 @@ use Rattle.struct_ir.specs.Nodes as ir
 use Rattle.struct_ir.specs.Lists.{bare_place}
 use Rattle.struct_ir.specs.Valid.{Scope, Around, is_below_if, are_below, is_promoted, is_calc, is_place, has_params, has_width, is_piece}
 use Rattle.lower_forms.specs.Counts.{count, count_parts, count_all}
-use Rattle.lower_forms.specs.Forms.{Frame, home, first_temp, acts, calls, Reach, found, direct, indexed, at_temp, behind, member_reach, register_if, is_pointer, register_of, register_in, direct_if, indexed_if, pointer_register, pointed, reach, local_value, local_place, converts, sum_calc, temps_of, is_number, with_if, number_temps, text_places, pointed_number, changed_number, change_nodes, lib_nodes, expr_nodes, value_nodes, place_nodes, object_place, args_nodes}
+use Rattle.lower_forms.specs.Forms.{Frame, home, first_temp, acts, calls, Reach, found, direct, indexed, at_temp, behind, member_reach, register_if, is_pointer, register_of, register_in, direct_if, indexed_if, pointer_register, pointed, reach, number_type, local_value, local_place, converts, sum_calc, temps_of, is_number, with_if, number_temps, text_places, pointed_number, changed_number, change_nodes, lib_nodes, expr_nodes, value_nodes, place_nodes, object_place, args_nodes}
 use Rattle.lower_forms.proofs.Operands.{operands_promoted}
-use Rattle.lower_forms.proofs.Pieces.{Good, promoted_is, below, good_none, good_set, good_step, good_branches, good_int, good_long, good_truth, InReach, temp_in, member_in, good_loads, store_step, copy_step, good_object, good_member}
+use Rattle.lower_forms.proofs.Pieces.{Good, promoted_is, below, good_none, good_set, good_becomes, good_step, good_branches, good_int, good_long, good_truth, InReach, temp_in, member_in, good_loads, store_step, copy_step, good_object, good_member}
 
 -- ---- formats
 
@@ -427,14 +427,14 @@ module _ (x : Scope) (c : InScope) (f : Frame) (s : Suits x c f) where
   good_local_place a place n t None rest ok i j g = good_set x a place t _ rest j (below x n i) g
   good_local_place a place n t (Some k) rest ok i j g = good_object x a place k t _ (ok k refl) j g
 
-  good_converts : (a : Around) (place : ℕ) (ty : tree.Ty) (t : ℕ) (rest : Nodes) → t < x.temps → Good x a rest → Good x a (converts place ty t rest)
-  good_converts a place tree.void t rest h g = g
-  good_converts a place (tree.integer s) t rest h g = good_set x a place t _ rest h (below x t h) g
-  good_converts a place (tree.atomic s) t rest h g = g
-  good_converts a place tree.mutex t rest h g = g
-  good_converts a place (tree.pointer s) t rest h g = g
-  good_converts a place (tree.array s n) t rest h g = g
-  good_converts a place (tree.structure n) t rest h g = g
+  good_converts : (a : Around) (place : ℕ) (from ty : tree.Ty) (t : ℕ) (rest : Nodes) → t < x.temps → Good x a rest → Good x a (converts place from ty t rest)
+  good_converts a place from tree.void t rest h g = g
+  good_converts a place from (tree.integer s) t rest h g = good_becomes x a place (number_type from) s t rest h g
+  good_converts a place from (tree.atomic s) t rest h g = g
+  good_converts a place from tree.mutex t rest h g = g
+  good_converts a place from (tree.pointer s) t rest h g = g
+  good_converts a place from (tree.array s n) t rest h g = g
+  good_converts a place from (tree.structure n) t rest h g = g
 
   two_below : (t : ℕ) → suc t < x.temps → (nat_lt t x.temps && nat_lt (suc t) x.temps) ≡ true
   two_below t h = and_from _ _ (below x t (omega (arith, h))) (below x (suc t) h)
@@ -462,7 +462,7 @@ module _ (x : Scope) (c : InScope) (f : Frame) (s : Suits x c f) where
         (good_loads x a place ty _ t rest (member_in x _ (reach f e) t (omega (arith, k)) r.inside) (omega (arith, k)) g))
     good_value place ty (tree.address_of e) h t k a rest g = good_place e h.0 t (omega (arith, k)) a rest g
     good_value place ty (tree.decay e) h t k a rest g = good_place e h.0 t (omega (arith, k)) a rest g
-    good_value place ty (tree.convert e) h t k a rest g = good_expr e h.0 t (omega (arith, k)) a _ (good_converts a place ty t rest (omega (arith, k)) g)
+    good_value place ty (tree.convert e) h t k a rest g = good_expr e h.0 t (omega (arith, k)) a _ (good_converts a place (tree.type_of e) ty t rest (omega (arith, k)) g)
     good_value place ty (tree.not_ e) h t k a rest g = good_expr e h.0 t (omega (arith, k)) a _ (good_truth x a place t 0 1 rest (omega (arith, k)) g)
     good_value place ty (tree.binary op d e) h t k a rest g =
         good_expr d h.0 t (omega (arith, k)) a _ (good_expr e h.1 (suc t) (omega (arith, k, at_least_one d)) a _

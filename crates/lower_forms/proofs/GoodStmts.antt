@@ -17,7 +17,7 @@ use Rattle.struct_ir.specs.Lists.{bare_place}
 use Rattle.lower_forms.specs.Counts.{count, count_parts, count_if, greatest, greatest_in, greatest_row, switches, switches_by, switches_in}
 use Rattle.lower_forms.specs.Forms.{Frame, looped, switched, home, first_temp, behind, reach, is_void, number_type, change_nodes, value_nodes, object_place, dropped_nodes, dropped_value, begins, with_home, home_in, declared_home, objects_by, objects_in, initialises, store_nodes, copy_nodes, own_register, assign_nodes, number_update, computes, update_at, update_nodes, equal_nodes, choose_nodes, begin_if, label_nodes, stmt_place, guarded, break_nodes, test_nodes, stmt_nodes, form_nodes, row_nodes, switch_nodes}
 use Rattle.lower_forms.proofs.Operands.{operand_promoted, moves_fits}
-use Rattle.lower_forms.proofs.Pieces.{Good, below, good_none, good_set, good_branches, good_loop, good_break, good_next, good_ret, good_int, good_long, place_in, place_bare, temp_in, load_step, store_step, copy_step, AreObjects, objects_both, good_ends, promoted_is}
+use Rattle.lower_forms.proofs.Pieces.{Good, below, good_none, good_set, good_becomes, good_branches, good_loop, good_break, good_next, good_ret, good_int, good_long, place_in, place_bare, temp_in, load_step, store_step, copy_step, AreObjects, objects_both, good_ends, promoted_is}
 use Rattle.lower_forms.proofs.GoodExprs.{Suits, at_least_one, temps_below, good_change, good_call, called, BelowIf, register_below, local_below, reach_fits, good_expr, good_value, good_place, good_object_place, good_args}
 
 -- an atomic number that is updated has 32 or 64 bits
@@ -178,10 +178,11 @@ module _ (x : Scope) (c : InScope) (f : Frame) (s : Suits x c f) where
   both_below m n h k = and_from _ _ (below x m h) (below x n k)
 
   good_number_update : (a : Around) (place : ℕ) (op : Op) (u v : IntType) (m n to : ℕ) (rest : Nodes) → m < x.temps → n < x.temps → to < x.temps
-      → Good x a rest → Good x a (number_update place op u (operand_types op u v) m n to rest)
+      → Good x a rest → Good x a (number_update place op u v (operand_types op u v) m n to rest)
   good_number_update a place op u v m n to rest h i j g =
-      good_set x a place m _ _ h (below x m h) (good_set x a place n _ _ i (below x n i)
-      (good_set x a place m _ _ h (and_from _ _ (operand_promoted op u v) (both_below m n h i)) (good_set x a place to _ rest j (below x m h) g)))
+      let types = operand_types op u v in
+      good_becomes x a place u types.0 m _ h (good_becomes x a place v types.1 n _ i
+      (good_set x a place to _ _ j (and_from _ _ (operand_promoted op u v) (both_below m n h i)) (good_becomes x a place types.0 u to rest j g)))
 
   good_moves : (a : Around) (place : ℕ) (op : Op) (m n to scale : ℕ) (rest : Nodes) → m < x.temps → n < x.temps → to < x.temps
       → Good x a rest → Good x a (Rattle.lower_forms.specs.Forms.sets place to (Rattle.lower_forms.specs.Forms.moves op m n scale) rest)

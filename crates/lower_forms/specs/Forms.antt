@@ -18,6 +18,7 @@ use Rattle.c_meaning.specs.Switches.{default_from, stands_at}
 use Rattle.c_meaning.specs.Turns.{is_struct}
 use Rattle.struct_ir.specs.Nodes.{Calc, Place, Action, Nodes, no_nodes, more_nodes, plain, if_, loop, break_, next_, ret, set, call, step, begin_object, end_object}
 use Rattle.struct_ir.specs.Nodes as ir
+use Rattle.struct_ir.specs.meaning.Blocks.{same_type}
 
 -- what stays the same in a function: the structs of the program, and for each local the number of its stack object, or none where it's
 -- kept in the register of its own number; and where a statement stands: the first register that is free, and the flag of the switch that
@@ -195,21 +196,25 @@ local_place place number t (Some object) rest = object_nodes place object t rest
 abbrev pub member_nodes : (place offset w t : ℕ) → Nodes → Nodes
 member_nodes place offset w t rest = sets_long place w offset (sets place t (ir.pointer_add t w 1) rest)
 
--- a conversion: of a pointer it is nothing (C11 6.3)
-abbrev pub converts : (place : ℕ) → tree.Ty → (t : ℕ) → Nodes → Nodes
-converts place (tree.integer s) t rest = sets place t (ir.convert s t) rest
-converts place ty t rest = rest
-
--- the sum of a pointer and a number of elements, of which the first stands in t and the other in u
-abbrev pub sum_calc : (pointer_first : Bool) → (t u size : ℕ) → Calc
-sum_calc true t u size = ir.pointer_add t u size
-sum_calc false t u size = ir.pointer_add u t size
-
 -- the type of the numbers of an operand or of an object, also of an atomic one; where it's asked, a well formed tree has no other
 abbrev pub number_type : tree.Ty → IntType
 number_type (tree.integer t) = t
 number_type (tree.atomic t) = t
 number_type ty = int
+
+-- the number in the register t becomes one of another type; nothing is done where that is its own (C11 6.3.1.3)
+abbrev pub becomes : (place : ℕ) → (from to : IntType) → (t : ℕ) → Nodes → Nodes
+becomes place from to t rest = if same_type from to then rest else sets place t (ir.convert to t) rest
+
+-- a conversion from one type to another: of a pointer it is nothing (C11 6.3)
+abbrev pub converts : (place : ℕ) → (from to : tree.Ty) → (t : ℕ) → Nodes → Nodes
+converts place from (tree.integer s) t rest = becomes place (number_type from) s t rest
+converts place from to t rest = rest
+
+-- the sum of a pointer and a number of elements, of which the first stands in t and the other in u
+abbrev pub sum_calc : (pointer_first : Bool) → (t u size : ℕ) → Calc
+sum_calc true t u size = ir.pointer_add t u size
+sum_calc false t u size = ir.pointer_add u t size
 
 -- the type of the numbers to which a pointer of this type leads
 abbrev pub pointed_number : tree.Ty → IntType
@@ -303,7 +308,7 @@ abbrev mutual
       (loads place ty (member_reach (member_offset f.structs (tree.type_of e) number) (reach f e)) t rest))
   value_nodes f place ty (tree.address_of e) t rest = place_nodes f e t rest
   value_nodes f place ty (tree.decay e) t rest = place_nodes f e t rest
-  value_nodes f place ty (tree.convert e) t rest = expr_nodes f e t (converts place ty t rest)
+  value_nodes f place ty (tree.convert e) t rest = expr_nodes f e t (converts place (tree.type_of e) ty t rest)
   value_nodes f place ty (tree.not_ e) t rest = expr_nodes f e t (sets_truth place t 0 1 rest)
   value_nodes f place ty (tree.binary op a b) t rest =
       expr_nodes f a t (expr_nodes f b (suc t) (sets place t (ir.apply op (number_type (tree.type_of a)) t (suc t)) rest))
@@ -445,14 +450,15 @@ abbrev pub moves : Op → (p n scale : ℕ) → Calc
 moves ops.Sub p n scale = ir.pointer_sub p n scale
 moves op p n scale = ir.pointer_add p n scale
 
--- a op b of the registers x and y comes to `to`, converted to the type of a; x and y take what their types become (C11 6.5.16.2)
-abbrev pub number_update : (place : ℕ) → Op → IntType → IntType × IntType → (x y to : ℕ) → Nodes → Nodes
-number_update place op a types x y to rest =
-    sets place x (ir.convert types.0 x) (sets place y (ir.convert types.1 y) (sets place x (ir.apply op types.0 x y) (sets place to (ir.convert a x) rest)))
+-- a op b, of which x and y hold the numbers, of the types a and b, comes to `to` as a number of type a; x and y take what they become
+-- (C11 6.5.16.2)
+abbrev pub number_update : (place : ℕ) → Op → (a b : IntType) → IntType × IntType → (x y to : ℕ) → Nodes → Nodes
+number_update place op a b types x y to rest =
+    becomes place a types.0 x (becomes place b types.1 y (sets place to (ir.apply op types.0 x y) (becomes place types.0 a to rest)))
 
 -- by the type of a, which is a number or a pointer
 abbrev pub computes : List tree.Layout → (place : ℕ) → Op → (a b : tree.Ty) → (x y to : ℕ) → Nodes → Nodes
-computes structs place op (tree.integer a) b x y to rest = number_update place op a (operand_types op a (number_type b)) x y to rest
+computes structs place op (tree.integer a) b x y to rest = number_update place op a (number_type b) (operand_types op a (number_type b)) x y to rest
 computes structs place op a b x y to rest = sets place to (moves op x y (element_size structs a)) rest
 
 -- a op= b where a is a local in a register: b is evaluated first

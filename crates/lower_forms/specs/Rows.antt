@@ -1,7 +1,7 @@
 -- Worked rows: small pieces of C and the code that they are lowered to, written by hand.
 use Rattle.std.specs.Prelude.{◌≡◌, ℕ, pos, true, false, List, [], ◌∷◌, Option, Some, None}
-use Rattle.ak_words.specs.declared.operation.Op.TheVariants.{Add, Sub, Mul}
-use Rattle.ak_words.specs.IntType.{char, int, unsigned_int, unsigned_long}
+use Rattle.ak_words.specs.declared.operation.Op.TheVariants.{Add, Sub, Mul, Shl}
+use Rattle.ak_words.specs.IntType.{char, int, unsigned_int, long, unsigned_long}
 use Rattle.block_store.specs.declared.values.Access.TheVariants as accesses
 use Rattle.block_store.specs.declared.values.Change.TheVariants as changes
 use Rattle.c_tree.specs.Typed as tree
@@ -129,6 +129,39 @@ change_code = record {
 abbrev pub number : (place local : ℕ) → tree.Expr
 number place local = tree.at place (tree.integer int) (tree.local local)
 
+-- the value of a local of type char
+abbrev pub a_char : (place local : ℕ) → tree.Expr
+a_char place local = tree.at place (tree.integer char) (tree.local local)
+
+-- the value of a local of type long
+abbrev pub a_long : (place local : ℕ) → tree.Expr
+a_long place local = tree.at place (tree.integer long) (tree.local local)
+
+-- void update(void){int i;char c;long l; .. i++;c+=i;i-=l;i<<=l;i=(int)c;i=(int)i;}
+abbrev pub update : tree.Func
+update = func tree.void (kept (tree.integer int) ∷ kept (tree.integer char) ∷ kept (tree.integer long) ∷ [])
+    (tree.at_stmt 41 (tree.update (number 40 0) Add (an_int 42 1))
+    ∷ tree.at_stmt 51 (tree.update (a_char 50 1) Add (number 52 0))
+    ∷ tree.at_stmt 61 (tree.update (number 60 0) Sub (a_long 62 2))
+    ∷ tree.at_stmt 71 (tree.update (number 70 0) Shl (a_long 72 2))
+    ∷ tree.at_stmt 81 (tree.assign (number 80 0) (tree.at 82 (tree.integer int) (tree.convert (a_char 83 1))))
+    ∷ tree.at_stmt 91 (tree.assign (number 90 0) (tree.at 92 (tree.integer int) (tree.convert (number 93 0)))) ∷ [])
+
+-- its code: an operand is converted only where it's of another type than the one in which the operator works, and so is the result where
+-- that isn't the type of the left side; a shift takes each operand in its own, and a cast to a number's own type is nothing
+abbrev pub update_code : ir.Func
+update_code = record {
+  params = 0;
+  temps = 7;
+  slots = 0;
+  objects = [];
+  nodes = row (sets 42 3 (ir.constant int (pos 1)) ∷ sets 40 4 (ir.copy 0) ∷ sets 41 0 (ir.apply Add int 4 3)
+      ∷ sets 52 3 (ir.copy 0) ∷ sets 50 4 (ir.copy 1) ∷ sets 51 4 (ir.convert int 4) ∷ sets 51 1 (ir.apply Add int 4 3) ∷ sets 51 1 (ir.convert char 1)
+      ∷ sets 62 3 (ir.copy 2) ∷ sets 60 4 (ir.copy 0) ∷ sets 61 4 (ir.convert long 4) ∷ sets 61 0 (ir.apply Sub long 4 3) ∷ sets 61 0 (ir.convert int 0)
+      ∷ sets 72 3 (ir.copy 2) ∷ sets 70 4 (ir.copy 0) ∷ sets 71 0 (ir.apply Shl int 4 3)
+      ∷ sets 83 3 (ir.copy 1) ∷ sets 82 3 (ir.convert int 3) ∷ sets 81 0 (ir.copy 3) ∷ sets 93 3 (ir.copy 0) ∷ sets 91 0 (ir.copy 3) ∷ []);
+}
+
 -- p[i], where p is local 0 and i is local 1
 abbrev pub element_of : (place : ℕ) → tree.Expr
 element_of place = tree.at place (tree.integer int)
@@ -163,3 +196,4 @@ pub record RowsHold : Type 0 where
   pub lowered_program : lowered (program main churn) ≡ record { globals = []; literals = []; funcs = churn_code ∷ main_code ∷ []; main = 1 }
   pub lowered_allocations : lowered (program main grow) ≡ record { globals = []; literals = []; funcs = grow_code ∷ main_code ∷ []; main = 1 }
   pub lowered_changes : lowered (program main change) ≡ record { globals = []; literals = []; funcs = change_code ∷ main_code ∷ []; main = 1 }
+  pub lowered_updates : lowered (program main update) ≡ record { globals = []; literals = []; funcs = update_code ∷ main_code ∷ []; main = 1 }

@@ -1,6 +1,6 @@
 -- A value goes to a local or to an object.
 use Rattle.lower_turns.proofs.Operands.{computed_taken}
-use Rattle.std.proofs.Common.{◌≡◌, Bool, ◌≢◌, ℕ, suc, ◌<◌, ◌^◌, ◌⊎◌, inl, inr, ℤ, pos, true, false, List, [], ◌∷◌, set, Option, Some, None, Result, Ok, Err, refl, sym, ap, subst, ◌∙◌, arith, unsigned_abs}
+use Rattle.std.proofs.Common.{◌≡◌, Bool, ◌≢◌, ℕ, suc, ◌<◌, ◌^◌, ◌⊎◌, inl, inr, ℤ, pos, true, false, List, [], ◌∷◌, set, Option, Some, None, Result, Ok, Err, refl, sym, ap, subst, ◌∙◌, arith, if◌then◌else◌, unsigned_abs}
 use Rattle.std.specs.Prelude.{slice_get}
 use Rattle.ak_words.specs.declared.int_type.IntType.{IntType}
 use Rattle.ak_words.specs.declared.number.Num.{Num}
@@ -23,7 +23,7 @@ use Rattle.block_store.specs.Blocks.{Blocks}
 use Rattle.block_store.specs.Runs as runs
 use Rattle.block_store.specs.Runs.{Turn}
 use Rattle.c_tree.specs.Typed as tree
-use Rattle.c_tree.specs.TypedForm.{Jumps, IsScalar, CanUpdate}
+use Rattle.c_tree.specs.TypedForm.{Jumps, IsScalar, CanUpdate, is_comparison}
 use Rattle.c_tree.specs.TypedLayout.{size_in, align_in}
 use Rattle.c_meaning.specs.Values.{access_of_type, element_size, forward, backward, of_two, operand_types, computed, converted_result, value_of, updated}
 use Rattle.c_meaning.specs.Control as source
@@ -32,14 +32,14 @@ use Rattle.c_meaning.specs.Turns.{Way, on_ok, stays, local_way, nowhere_way, pla
 use Rattle.struct_ir.specs.Nodes as ir
 use Rattle.struct_ir.specs.Nodes.{Nodes, Step, more_nodes, plain}
 use Rattle.struct_ir.specs.Structured.{Position, then_}
-use Rattle.struct_ir.specs.meaning.Blocks.{Held, value, number, pointer, broken, Own, set_at, known, on_value, on_number, or_broken, calculated, start_of, takes, if_taken}
+use Rattle.struct_ir.specs.meaning.Blocks.{Held, value, number, pointer, broken, Own, set_at, known, on_value, on_number, or_broken, calculated, start_of, same_type, takes, if_taken}
 use Rattle.struct_ir.specs.meaning.Threads.{action_of, set_if}
 use Rattle.lower_forms.specs.Forms as forms
-use Rattle.lower_forms.specs.Forms.{home, sets, Reach, found, reached, behind, at_temp, moves, number_update, computes, sized_copy}
+use Rattle.lower_forms.specs.Forms.{home, sets, Reach, found, reached, behind, at_temp, moves, becomes, number_update, computes, sized_copy}
 use Rattle.lower_forms.specs.Programs.{lowered}
 use Rattle.lower_turns.proofs.Relation.{HasKind, Below, Reaches, Points, InRegister, no_value, one_value, held_in, forwards, backwards, at_local, at_nowhere, at_place, at_block, at_struct_right, at_update_read, at_update_local, Together, both_went, both_broke, same, at_begins}
 use Rattle.lower_turns.proofs.Registers.{set_here, set_there, below_same, below_less, below_then, below_set, reaches_below}
-use Rattle.lower_turns.proofs.Values.{binary_is, binary_kind, long_is, taken_is}
+use Rattle.lower_turns.proofs.Values.{binary_is, binary_kind, result_kept, own_number, one_int, long_is, taken_is}
 use Rattle.lower_turns.proofs.Steps.{set_then, set_result, set_breaks, acts_alike}
 use Rattle.lower_turns.proofs.Setting.{Stands, Setting, here, now, own, Alike, frame, start, start_is, agrees_on, GoesE, GoesS, points_found}
 use Rattle.lower_turns.proofs.Actions.{GivesNone, if_went, store_so, copy_so, IfWent}
@@ -65,19 +65,29 @@ module _ (g : Setting) (ob : ℕ → Option ℕ) (b : Blocks) (go : Value → Tu
   converts_to : (a : ℕ → Held) (k : ℕ) (s : IntType) (n : Num) → a k ≡ number n → calculated program_code place (own g ob a b) (ir.convert s k) ≡ Ok (number (num s n.value))
   converts_to a k s n e = ap (λ (h : Held). on_value (known place h) (on_number (λ (m : Num). Ok (number (num s m.value))))) e
 
-  -- the result of an operation on numbers comes to its register, converted
-  last_step : (s : IntType) → Leads (accesses.Number s) → (a : ℕ → Held) → But x y to tm a → (m : Num) → a x ≡ number m → Alike g (go (values.Num (num s m.value))) (then_ (sets place to (ir.convert s x) r) q) (own g ob a b)
-  last_step s leads a but m e =
-      set_then program_code g.thread g.answer g.cs' g.s g.t (go (values.Num (num s m.value))) place to (ir.convert s x) r q (own g ob a b) (number (num s m.value)) (converts_to a x s m e)
-      (leads (values.Num (num s m.value)) refl (set_at a to (number (num s m.value))) (λ i nx ny nt. set_there a to (number (num s m.value)) i nt ∙ but i nx ny nt) (set_here a to (number (num s m.value))))
+  -- a number of a type goes on as one of another, whether it is converted or is of that type already
+  becomes_alike : (out : Turn Control) (k : ℕ) (from s : IntType) (n : Num) (rest : Nodes) (a : ℕ → Held) → n.ty ≡ from → a k ≡ number n
+      → ((c : ℕ → Held) → ((i : ℕ) → i ≢ k → c i ≡ a i) → c k ≡ number (num s n.value) → Alike g out (then_ rest q) (own g ob c b))
+      → Alike g out (then_ (becomes place from s k rest) q) (own g ob a b)
+  becomes_alike out k from s n rest a of e leads = by_type (same_type from s) refl
+    where
+      by_type : (same : Bool) → same_type from s ≡ same → Alike g out (then_ (if same then rest else sets place k (ir.convert s k) rest) q) (own g ob a b)
+      by_type true is = leads a (λ i ne. refl) (e ∙ ap number (own_number n s (of ∙ one_int from s is)))
+      by_type false is =
+          let h : Held = number (num s n.value) in
+          set_then program_code g.thread g.answer g.cs' g.s g.t out place k (ir.convert s k) rest q (own g ob a b) h (converts_to a k s n e)
+          (leads (set_at a k h) (λ i ne. set_there a k h i ne) (set_here a k h))
 
-  applied : (res : Result Num Rule) (s t0 : IntType) (op : Op) (a : ℕ → Held) → But x y to tm a → calculated program_code place (own g ob a b) (ir.apply op t0 x y) ≡ or_broken place number res → Leads (accesses.Number s)
-      → Alike g (on_ok place go (converted_result (tree.integer s) (value_of res))) (then_ (sets place x (ir.apply op t0 x y) (sets place to (ir.convert s x) r)) q) (own g ob a b)
-  applied (Ok m) s t0 op a but e leads =
-      set_then program_code g.thread g.answer g.cs' g.s g.t (go (values.Num (num s m.value))) place x (ir.apply op t0 x y) (sets place to (ir.convert s x) r) q (own g ob a b) (number m) e
-      (last_step s leads (set_at a x (number m)) (λ i nx ny nt. set_there a x (number m) i nx ∙ but i nx ny nt) m (set_here a x (number m)))
-  applied (Err rule) s t0 op a but e leads =
-      subst (Together g.t (runs.broke rule place)) (sym (set_breaks program_code g.thread g.answer g.cs' g.s place x (ir.apply op t0 x y) (sets place to (ir.convert s x) r) q (own g ob a b) (broken rule place) e)) (both_broke rule place)
+  -- the result of an operation on numbers, of the type t0, comes to its register as one of the left side's type
+  applied : (res : Result Num Rule) (s t0 : IntType) (op : Op) (a : ℕ → Held) → But x y to tm a → ((m : Num) → res ≡ Ok m → m.ty ≡ t0)
+      → calculated program_code place (own g ob a b) (ir.apply op t0 x y) ≡ or_broken place number res → Leads (accesses.Number s)
+      → Alike g (on_ok place go (converted_result (tree.integer s) (value_of res))) (then_ (sets place to (ir.apply op t0 x y) (becomes place t0 s to r)) q) (own g ob a b)
+  applied (Ok m) s t0 op a but of e leads =
+      set_then program_code g.thread g.answer g.cs' g.s g.t (go (values.Num (num s m.value))) place to (ir.apply op t0 x y) (becomes place t0 s to r) q (own g ob a b) (number m) e
+      (becomes_alike (go (values.Num (num s m.value))) to t0 s m r (set_at a to (number m)) (of m refl) (set_here a to (number m))
+      (λ c keep is. leads (values.Num (num s m.value)) refl c (λ i nx ny nt. keep i nt ∙ set_there a to (number m) i nt ∙ but i nx ny nt) is))
+  applied (Err rule) s t0 op a but of e leads =
+      subst (Together g.t (runs.broke rule place)) (sym (set_breaks program_code g.thread g.answer g.cs' g.s place to (ir.apply op t0 x y) (becomes place t0 s to r) q (own g ob a b) (broken rule place) e)) (both_broke rule place)
 
   apply_is : (t0 : IntType) (op : Op) (a : ℕ → Held) (m n : Num) → takes op t0 m.ty n.ty ≡ true → a x ≡ number m → a y ≡ number n → calculated program_code place (own g ob a b) (ir.apply op t0 x y) ≡ or_broken place number (result_of op m n)
   apply_is t0 op a m n t e d =
@@ -85,17 +95,18 @@ module _ (g : Setting) (ob : ℕ → Option ℕ) (b : Blocks) (go : Value → Tu
       ∙ ap (λ (h : Held). on_value (known place h) (on_number (λ (o : Num). if_taken (takes op t0 m.ty o.ty) (or_broken place number (result_of op m o))))) d
       ∙ taken_is (takes op t0 m.ty n.ty) (or_broken place number (result_of op m n)) t
 
-  numbers_updated : (op : Op) (s : IntType) (types : IntType × IntType) (m n : Num) → takes op types.0 types.0 types.1 ≡ true → tm x ≡ number m → tm y ≡ number n → Leads (accesses.Number s)
-      → Alike g (on_ok place go (converted_result (tree.integer s) (computed op types m n))) (then_ (number_update place op s types x y to r) q) (own g ob tm b)
-  numbers_updated op s types m n t e d leads =
-      let hx : Held = number (num types.0 m.value) in
-      let hy : Held = number (num types.1 n.value) in
-      let not_x : y ≢ x = λ z. apart (sym z) in
-      set_then program_code g.thread g.answer g.cs' g.s g.t _ place x (ir.convert types.0 x) (sets place y (ir.convert types.1 y) (sets place x (ir.apply op types.0 x y) (sets place to (ir.convert s x) r))) q (own g ob tm b) hx (converts_to tm x types.0 m e)
-      (set_then program_code g.thread g.answer g.cs' g.s g.t _ place y (ir.convert types.1 y) (sets place x (ir.apply op types.0 x y) (sets place to (ir.convert s x) r)) q (own g ob (set_at tm x hx) b) hy
-      (converts_to (set_at tm x hx) y types.1 n (set_there tm x hx y not_x ∙ d))
-      (applied (result_of op (num types.0 m.value) (num types.1 n.value)) s types.0 op (set_at (set_at tm x hx) y hy) (λ i nx ny nt. set_there (set_at tm x hx) y hy i ny ∙ set_there tm x hx i nx)
-      (apply_is types.0 op (set_at (set_at tm x hx) y hy) (num types.0 m.value) (num types.1 n.value) t (set_there (set_at tm x hx) y hy x apart ∙ set_here tm x hx) (set_here (set_at tm x hx) y hy)) leads))
+  numbers_updated : (op : Op) (s u : IntType) (types : IntType × IntType) (m n : Num) → m.ty ≡ s → n.ty ≡ u → is_comparison op ≡ false → takes op types.0 types.0 types.1 ≡ true
+      → tm x ≡ number m → tm y ≡ number n → Leads (accesses.Number s)
+      → Alike g (on_ok place go (converted_result (tree.integer s) (computed op types m n))) (then_ (number_update place op s u types x y to r) q) (own g ob tm b)
+  numbers_updated op s u types m n left right not_compared t e d leads =
+      let one : Num = num types.0 m.value in
+      let other : Num = num types.1 n.value in
+      becomes_alike _ x s types.0 m _ tm left e
+      (λ a keep is.
+      becomes_alike _ y u types.1 n _ a right (keep y (λ z. apart (sym z)) ∙ d)
+      (λ c keeps holds.
+      applied (result_of op one other) s types.0 op c (λ i nx ny nt. keeps i ny ∙ keep i nx) (λ w given. result_kept op one other w not_compared given)
+      (apply_is types.0 op c one other t (keeps x apart ∙ is) holds) leads))
 
   moved_to : (op : Op) (size : ℕ) (u : tree.Ty) (p : Ptr) (n : Num) → (op ≡ ops.Add) ⊎ (op ≡ ops.Sub) → element_size g.t.structs (tree.pointer u) ≡ size → tm x ≡ pointer p → tm y ≡ number n → Leads accesses.Pointer
       → Alike g (on_ok place go (updated g.t.structs b (tree.pointer u) op (values.Pointer p) (values.Num n))) (then_ (sets place to (moves op x y (element_size g.t.structs (tree.pointer u))) r) q) (own g ob tm b)
@@ -115,8 +126,8 @@ module _ (g : Setting) (ob : ℕ → Option ℕ) (b : Blocks) (go : Value → Tu
       → Alike g (on_ok place go (updated g.t.structs b ta op va vb)) (then_ (computes g.t.structs place op ta tb x y to r) q) (own g ob tm b)
   computes_alike op (tree.integer s) (tree.integer z) scalar can (values.Num m) (values.Num n) ka kb e d leads =
       let types : operand_types op m.ty n.ty ≡ operand_types op s z = ap (λ k. operand_types op k n.ty) ka ∙ ap (operand_types op s) kb in
-      subst (λ k. Alike g (on_ok place go (converted_result (tree.integer s) (computed op k m n))) (then_ (number_update place op s (operand_types op s z) x y to r) q) (own g ob tm b)) (sym types)
-      (numbers_updated op s (operand_types op s z) m n (computed_taken op s z) e d leads)
+      subst (λ k. Alike g (on_ok place go (converted_result (tree.integer s) (computed op k m n))) (then_ (number_update place op s z (operand_types op s z) x y to r) q) (own g ob tm b)) (sym types)
+      (numbers_updated op s z (operand_types op s z) m n ka kb can (computed_taken op s z) e d leads)
   computes_alike op (tree.integer s) (tree.integer z) scalar can (values.Pointer p) vb ka kb e d leads = elim ka [ ]
   computes_alike op (tree.integer s) (tree.integer z) scalar can (values.Num m) (values.Pointer p) ka kb e d leads = elim kb [ ]
   computes_alike op (tree.pointer u) (tree.integer z) scalar can (values.Pointer p) (values.Num n) ka kb e d leads = moved_to op (element_size g.t.structs (tree.pointer u)) u p n can.0 refl e d leads

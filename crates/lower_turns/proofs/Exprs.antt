@@ -133,13 +133,13 @@ module _ (g : Setting) (busy : Calls g.t) where
         (set_here tm u (pointer (To (length g.t.globals + i) 0)))
 
     converted_goes : (place : ℕ) (e : tree.Expr) (ty : tree.Ty) → ConvertFits (tree.type_of e) ty → GoesE g vs ob b tm w u (access_of_type ty) (direct_if (if is_pointer ty then register_of (frame g) e else None)) r q
-        → GoesE g vs ob b tm (only_way place (converts ty) w) u (access_of_type (tree.type_of e)) (pointed (frame g) e) (forms.converts place ty u r) q
+        → GoesE g vs ob b tm (only_way place (converts ty) w) u (access_of_type (tree.type_of e)) (pointed (frame g) e) (forms.converts place (tree.type_of e) ty u r) q
     converted_goes place e ty fits goes = by_case (convert_reach (frame g) e ty (tree.type_of e) fits)
       where
         by_case : (direct_if (if is_pointer ty then register_of (frame g) e else None) ≡ found) ⊎ (direct_if (if is_pointer ty then register_of (frame g) e else None) ≡ pointed (frame g) e)
-            → GoesE g vs ob b tm (only_way place (converts ty) w) u (access_of_type (tree.type_of e)) (pointed (frame g) e) (forms.converts place ty u r) q
+            → GoesE g vs ob b tm (only_way place (converts ty) w) u (access_of_type (tree.type_of e)) (pointed (frame g) e) (forms.converts place (tree.type_of e) ty u r) q
         by_case (inl h) =
-            anyhow g vs ob b tm (only_way place (converts ty) w) u (access_of_type (tree.type_of e)) (pointed (frame g) e) (forms.converts place ty u r) q
+            anyhow g vs ob b tm (only_way place (converts ty) w) u (access_of_type (tree.type_of e)) (pointed (frame g) e) (forms.converts place (tree.type_of e) ty u r) q
             (convert_goes g vs ob b tm w u r q place (tree.type_of e) ty found fits (subst (λ z. GoesE g vs ob b tm w u (access_of_type ty) z r q) h goes))
         by_case (inr h) = convert_goes g vs ob b tm w u r q place (tree.type_of e) ty (pointed (frame g) e) fits (subst (λ z. GoesE g vs ob b tm w u (access_of_type ty) z r q) h goes)
 
@@ -182,7 +182,7 @@ module _ (g : Setting) (busy : Calls g.t) where
         (anyhow g vs ob b tm w u accesses.Pointer (reach (frame g) e) r q (of_kind g vs ob b tm w u (access_of_type ty) accesses.Pointer found r q (ap access_of_type h.2.3) goes))
     value_sim place ty (tree.convert e) h s vs ob b tm w u r q goes =
         let fits = convert_fits (tree.type_of e) ty h.1 s in
-        values_sim e h.0 (convert_values (tree.type_of e) ty fits) vs ob b tm (only_way place (converts ty) w) u (forms.converts place ty u r) q (converted_goes vs ob b tm w u r q place e ty fits goes)
+        values_sim e h.0 (convert_values (tree.type_of e) ty fits) vs ob b tm (only_way place (converts ty) w) u (forms.converts place (tree.type_of e) ty u r) q (converted_goes vs ob b tm w u r q place e ty fits goes)
     value_sim place ty (tree.not_ e) h s vs ob b tm w u r q goes =
         expr_sim e h.0 h.1 vs ob b tm (only_way place negates w) u (forms.sets_truth place u 0 1 r) q
         (not_goes g vs ob b tm w u r q (of_kind g vs ob b tm w u (access_of_type ty) (accesses.Number int) found r q (ap access_of_type h.2) goes) place (access_of_type (tree.type_of e)) (pointed (frame g) e))

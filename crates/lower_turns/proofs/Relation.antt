@@ -330,7 +330,7 @@ module _ (t : tree.Typed) (n : ℕ) (f : tree.Func) where
         → BinaryFits op lh rh how → HasKind lh left → tm u ≡ value left → Joined tm u op left rch
         → AtE ob tm a k u how rch r q → AtE ob tm a (source.second_of place op left k) (suc u) rh rrch (sets place u (calc_of op lh u (suc u)) r) q
     at_convert : {a : Around} {k : Use} {u : ℕ} {rch : Reach} {r : Nodes} {q : Position} (place : ℕ) (from to : tree.Ty) → ConvertFits from to
-        → AtE ob tm a k u (access_of_type to) rch r q → AtE ob tm a (source.only_of place (converts to) k) u (access_of_type from) rch (forms.converts place to u r) q
+        → AtE ob tm a k u (access_of_type to) rch r q → AtE ob tm a (source.only_of place (converts to) k) u (access_of_type from) rch (forms.converts place from to u r) q
     at_not : {a : Around} {k : Use} {u : ℕ} {r : Nodes} {q : Position} (place : ℕ) (lh : Access) (rch : Reach)
         → AtE ob tm a k u (accesses.Number int) found r q → AtE ob tm a (source.only_of place negates k) u lh rch (sets_truth place u 0 1 r) q
     at_test : {a : Around} {k : Use} {u : ℕ} {r : Nodes} {q : Position} (place : ℕ) (rch : Reach)

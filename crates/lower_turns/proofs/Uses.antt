@@ -1,5 +1,5 @@
 -- What follows a value does the same on both sides, use by use.
-use Rattle.std.proofs.Common.{◌≡◌, ◌≢◌, ℕ, zero, suc, ◌<◌, ◌^◌, ◌*ℤ◌, ℤ, pos, Bool, not, List, [], ◌∷◌, Option, Some, None, Result, Ok, Err, refl, sym, ap, subst, ◌∙◌, arith}
+use Rattle.std.proofs.Common.{◌≡◌, ◌≢◌, ℕ, zero, suc, ◌<◌, ◌^◌, ◌*ℤ◌, ℤ, pos, Bool, true, false, not, if◌then◌else◌, List, [], ◌∷◌, Option, Some, None, Result, Ok, Err, refl, sym, ap, subst, ◌∙◌, arith}
 use Rattle.ak_words.specs.declared.int_type.IntType.{IntType}
 use Rattle.ak_words.specs.declared.number.Num.{Num}
 use Rattle.ak_words.specs.declared.rule.Rule.{Rule}
@@ -24,15 +24,15 @@ use Rattle.c_meaning.specs.Turns.{WayOfUse, on_ok, stays, after_call, second_way
 use Rattle.struct_ir.specs.Nodes as ir
 use Rattle.struct_ir.specs.Nodes.{Nodes, no_nodes, Place}
 use Rattle.struct_ir.specs.Structured.{Position, then_}
-use Rattle.struct_ir.specs.meaning.Blocks.{Held, value, number, pointer, truth, Fault, Own, set_at, known, on_value, on_number, on_pointer, or_broken, calculated}
+use Rattle.struct_ir.specs.meaning.Blocks.{Held, value, number, pointer, truth, Fault, Own, set_at, known, on_value, on_number, on_pointer, or_broken, calculated, same_type}
 use Rattle.struct_ir.specs.meaning.Threads.{address_of, action_of, action_with, set_if, moved_if}
 use Rattle.struct_ir.specs.meaning.Threads as served
 use Rattle.lower_forms.specs.Forms as forms
-use Rattle.lower_forms.specs.Forms.{sets, sets_int, sets_truth, Reach, found, direct, indexed as by_index, reached, behind, member_reach, member_nodes}
+use Rattle.lower_forms.specs.Forms.{sets, sets_int, sets_truth, Reach, found, direct, indexed as by_index, reached, behind, member_reach, member_nodes, becomes}
 use Rattle.lower_forms.specs.Programs.{lowered}
 use Rattle.lower_turns.proofs.Relation.{HasKind, Below, Reaches, Points, BinaryFits, forwards, forwards_from, calc_of, Joined, not_joined, joined, ConvertFits, to_number, from_atomic, to_pointer, Calls, at_second, at_convert, at_not, at_test, at_member, at_read, at_second_test, Together, both_went, same, at_gives}
 use Rattle.lower_turns.proofs.Registers.{set_here, set_there, below_less, below_set}
-use Rattle.lower_turns.proofs.Values.{binary_is, binary_kind, int_kind, moved_further, member_moved, unmoved, not_moved, times_one, long_is}
+use Rattle.lower_turns.proofs.Values.{binary_is, binary_kind, int_kind, moved_further, member_moved, unmoved, not_moved, times_one, long_is, own_number, one_int}
 use Rattle.lower_turns.proofs.Steps.{no_more, then_same, set_then, set_result, branch, acts_alike}
 use Rattle.lower_turns.proofs.Setting.{Setting, here, now, own, Alike, GoesE, points_found, later}
 use Rattle.lower_turns.proofs.Actions.{GivesKind, if_went, load_so}
@@ -256,14 +256,20 @@ module _ (g : Setting) (vs : List Variable) (ob : ℕ → Option ℕ) (b : Block
     convert_is place s a n e = ap (λ (x : Held). on_value (known place x) (on_number (λ (m : Num). Ok (number (num s m.value))))) e
 
     number_converted : (place : ℕ) (x y : IntType) (rch : Reach) → GoesE g vs ob b tm w u (accesses.Number y) rch r q → (v : Value) (a : ℕ → Held) → HasKind (accesses.Number x) v → Below u tm a → a u ≡ value v → Points a rch u v
-        → Alike g ((only_way place (meant.converts (tree.integer y)) w).go v (now g vs b)) (then_ (sets place u (ir.convert y u) r) q) (own g ob a b)
+        → Alike g ((only_way place (meant.converts (tree.integer y)) w).go v (now g vs b)) (then_ (becomes place x y u r) q) (own g ob a b)
     number_converted place x y rch goes (values.Pointer p) a kind below is points = elim kind [ ]
-    number_converted place x y rch goes (values.Num n) a kind below is points =
-        set_then program_code g.thread g.answer g.cs' g.s g.t _ place u (ir.convert y u) r q (own g ob a b) (number (num y n.value)) (convert_is place y a n is)
-        (gets tm a w u (accesses.Number y) rch r q goes below (values.Num (num y n.value)) refl tt)
+    number_converted place x y rch goes (values.Num n) a kind below is points = by_type (same_type x y) refl
+      where
+        by_type : (one : Bool) → same_type x y ≡ one
+            → Alike g ((only_way place (meant.converts (tree.integer y)) w).go (values.Num n) (now g vs b)) (then_ (if one then r else sets place u (ir.convert y u) r) q) (own g ob a b)
+        by_type true e =
+            goes.go (values.Num (num y n.value)) a refl below (is ∙ ap number (own_number n y (kind ∙ one_int x y e))) tt
+        by_type false e =
+            set_then program_code g.thread g.answer g.cs' g.s g.t _ place u (ir.convert y u) r q (own g ob a b) (number (num y n.value)) (convert_is place y a n is)
+            (gets tm a w u (accesses.Number y) rch r q goes below (values.Num (num y n.value)) refl tt)
 
     pub convert_goes : (place : ℕ) (from to : tree.Ty) (rch : Reach) → ConvertFits from to → GoesE g vs ob b tm w u (access_of_type to) rch r q
-        → GoesE g vs ob b tm (only_way place (meant.converts to) w) u (access_of_type from) rch (forms.converts place to u r) q
+        → GoesE g vs ob b tm (only_way place (meant.converts to) w) u (access_of_type from) rch (forms.converts place from to u r) q
     convert_goes place _ _ rch (to_pointer x y) goes = record {
       at = at_convert place (tree.pointer x) (tree.pointer y) (to_pointer x y) goes.at;
       above = goes.above;

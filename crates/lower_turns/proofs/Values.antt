@@ -1,16 +1,21 @@
 -- What operators give, in the source and in the code, and of which kind it is.
 use Rattle.std.proofs.Common.{◌≡◌, ℕ, ◌<◌, ◌^◌, ◌*ℤ◌, ◌+ℤ◌, ℤ, pos, negsuc, neg_ℤ, Bool, true, false, not, ◌&&◌, ◌==◌, nat_le, List, length, Option, Some, None, Result, Ok, Err, refl, sym, ap, subst, ◌∙◌, arith, if◌then◌else◌}
 use Rattle.std.proofs.lemmas.Int.{ints}
+use Rattle.std.proofs.lemmas.Bool.{eqb-true}
 use Rattle.std.proofs.lemmas.Bool.Decides.{nat_tests}
 use Rattle.std.specs.Option.{option_map, ok_or}
 use Rattle.ak_words.specs.declared.int_type.IntType.{IntType}
 use Rattle.ak_words.specs.declared.number.Num.{Num}
 use Rattle.ak_words.specs.declared.operation.Op.{Op}
+use Rattle.ak_words.specs.declared.operation.Op.TheVariants as ops
 use Rattle.ak_words.specs.declared.rule.Rule.{Rule}
 use Rattle.ak_words.specs.declared.rule.Rule.TheVariants.{C4, C7, C16}
 use Rattle.ak_words.specs.IntType.{int, long, unsigned_long, IsInRange}
 use Rattle.ak_words.specs.Num.{num}
 use Rattle.ak_words.specs.Op.{outcome, result_of, result_type, rule_of}
+use Rattle.ak_words.specs.Wrapped.{wrapped_value}
+use Rattle.ak_words.proofs.Numbers.{num_is}
+use Rattle.ak_words.proofs.Types.{int_type_is}
 use Rattle.ak_words.proofs.Wraps.{wrapped_value-in_type}
 use Rattle.block_store.specs.declared.values.Access.{Access}
 use Rattle.block_store.specs.declared.values.Access.TheVariants as accesses
@@ -22,6 +27,7 @@ use Rattle.block_store.specs.declared.values.Value.TheVariants as values
 use Rattle.block_store.specs.Blocks.{Block, Blocks, Range, live, loaded, read_at, spot_at, cells_at}
 use Rattle.block_store.specs.Cells as cells
 use Rattle.block_store.specs.Pointers.{within, moved_in, moved_null, moved, indexed, difference, compared}
+use Rattle.c_tree.specs.TypedForm.{is_comparison}
 use Rattle.c_meaning.specs.Values as meant
 use Rattle.c_meaning.specs.Values.{of_two, value_of, pointer_of, int_result, long_result, int_of}
 use Rattle.struct_ir.specs.Nodes.{Ir}
@@ -79,6 +85,28 @@ binary_is p place l a b (values.Num m) u (comparisons op) h g e d = elim h [ ]
 outcome_kind : (o : Option Rule) (m r : Num) → outcome o m ≡ Ok r → r.ty ≡ m.ty
 outcome_kind None m r e = let same : m ≡ r = cc in ap (λ (n : Num). n.ty) (sym same)
 outcome_kind (Some rule) m r e = absurd cc
+
+kept_type : (op : Op) (t : IntType) → is_comparison op ≡ false → result_type op t ≡ t
+kept_type ops.Eq t h = absurd cc
+kept_type ops.Ne t h = absurd cc
+kept_type ops.Lt t h = absurd cc
+kept_type ops.Le t h = absurd cc
+kept_type ops.Gt t h = absurd cc
+kept_type ops.Ge t h = absurd cc
+kept_type ops.Add t h = refl
+kept_type ops.Sub t h = refl
+kept_type ops.Mul t h = refl
+kept_type ops.Div t h = refl
+kept_type ops.Rem t h = refl
+kept_type ops.And t h = refl
+kept_type ops.Or t h = refl
+kept_type ops.Xor t h = refl
+kept_type ops.Shl t h = refl
+kept_type ops.Shr t h = refl
+
+-- an operation that compares nothing gives a number of its first operand's type
+pub result_kept : (op : Op) (a b r : Num) → is_comparison op ≡ false → result_of op a b ≡ Ok r → r.ty ≡ a.ty
+result_kept op a b r h e = outcome_kind (rule_of op a.ty a.value b.value) _ r e ∙ kept_type op a.ty h
 
 number_kind : (res : Result Num Rule) (s : IntType) (w : Value) → ((r : Num) → res ≡ Ok r → r.ty ≡ s) → value_of res ≡ Ok w → HasKind (accesses.Number s) w
 number_kind (Ok r) s w h e = let same : values.Num r ≡ w = cc in subst (HasKind (accesses.Number s)) same (h r refl)
@@ -225,6 +253,24 @@ signs false = refl
 
 pub type_itself : (s : IntType) → same_type s s ≡ true
 type_itself s = let e : (s.bits == s.bits) ≡ true = grind (arith, nat_tests) in ap (λ b. b && (if s.signed then s.signed else not s.signed)) e ∙ signs s.signed
+
+both : (a b : Bool) → (a && b) ≡ true → (a ≡ true) × (b ≡ true)
+both true b e = (refl, e)
+both false b e = absurd cc
+
+-- two types that are tested to be one
+pub one_int : (s t : IntType) → same_type s t ≡ true → s ≡ t
+one_int s t h = int_type_is s t (one_sign s.signed t.signed (both (s.bits == t.bits) _ h).1) (eqb-true s.bits t.bits (both (s.bits == t.bits) _ h).0)
+  where
+    one_sign : (a b : Bool) → (if a then b else not b) ≡ true → a ≡ b
+    one_sign true true e = refl
+    one_sign true false e = absurd cc
+    one_sign false true e = absurd cc
+    one_sign false false e = refl
+
+-- a number converted to its own type stays as it is
+pub own_number : (n : Num) (t : IntType) → n.ty ≡ t → n ≡ num t n.value
+own_number n t e = num_is n t n.value e (subst (λ s. n.value ≡ wrapped_value s n.value) e (sym (wrapped_value-in_type n.ty n.value n.in_range)))
 
 -- a value of the access's kind fits
 pub kind_fits : (how : Access) (v : Value) → HasKind how v → fits how v ≡ true
