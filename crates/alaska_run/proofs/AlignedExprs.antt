@@ -1,8 +1,10 @@
 -- In the code of expressions each copy is aligned to 1, 2, 4 or 8 bytes.
-use Rattle.std.proofs.Common.{ℕ, suc, Option, Some, None, refl}
+use Rattle.std.proofs.Common.{ℕ, suc, Bool, true, false, if◌then◌else◌, Option, Some, None, refl}
+use Rattle.ak_words.specs.declared.int_type.IntType.{IntType}
 use Rattle.c_tree.specs.Typed as tree
-use Rattle.struct_ir.specs.Nodes.{Nodes, no_nodes}
-use Rattle.lower_forms.specs.Forms.{Frame, home, local_value, local_place, converts, lib_nodes, expr_nodes, value_nodes, place_nodes, object_place, args_nodes}
+use Rattle.struct_ir.specs.Nodes.{Nodes, no_nodes, convert}
+use Rattle.struct_ir.specs.meaning.Blocks.{same_type}
+use Rattle.lower_forms.specs.Forms.{Frame, home, local_value, local_place, sets, number_type, becomes, converts, lib_nodes, expr_nodes, value_nodes, place_nodes, object_place, args_nodes}
 use Rattle.alaska_run.proofs.AlignedRows.{AreAligned}
 
 -- ---- parts of expressions
@@ -15,14 +17,21 @@ local_place_aligned : (place n t : ℕ) (o : Option ℕ) (rest : Nodes) → AreA
 local_place_aligned place n t None rest g = (tt, g)
 local_place_aligned place n t (Some object) rest g = (tt, (tt, g))
 
-converts_aligned : (place : ℕ) (ty : tree.Ty) (t : ℕ) (rest : Nodes) → AreAligned rest → AreAligned (converts place ty t rest)
-converts_aligned place tree.void t rest g = g
-converts_aligned place (tree.integer s) t rest g = (tt, g)
-converts_aligned place (tree.atomic s) t rest g = g
-converts_aligned place tree.mutex t rest g = g
-converts_aligned place (tree.pointer s) t rest g = g
-converts_aligned place (tree.array s n) t rest g = g
-converts_aligned place (tree.structure n) t rest g = g
+pub becomes_aligned : (place : ℕ) (s u : IntType) (t : ℕ) (rest : Nodes) → AreAligned rest → AreAligned (becomes place s u t rest)
+becomes_aligned place s u t rest g = by_type (same_type s u)
+  where
+    by_type : (same : Bool) → AreAligned (if same then rest else sets place t (convert u t) rest)
+    by_type true = g
+    by_type false = (tt, g)
+
+converts_aligned : (place : ℕ) (from ty : tree.Ty) (t : ℕ) (rest : Nodes) → AreAligned rest → AreAligned (converts place from ty t rest)
+converts_aligned place from tree.void t rest g = g
+converts_aligned place from (tree.integer s) t rest g = becomes_aligned place (number_type from) s t rest g
+converts_aligned place from (tree.atomic s) t rest g = g
+converts_aligned place from tree.mutex t rest g = g
+converts_aligned place from (tree.pointer s) t rest g = g
+converts_aligned place from (tree.array s n) t rest g = g
+converts_aligned place from (tree.structure n) t rest g = g
 
 lib_aligned : (place : ℕ) (which : tree.Lib) (es : tree.Exprs) (t : ℕ) (rest : Nodes) → AreAligned rest → AreAligned (lib_nodes place which es t rest)
 lib_aligned place (tree.print pieces) es t rest g = (tt, g)
@@ -60,7 +69,7 @@ module _ (f : Frame) where
     value_aligned place ty (tree.member e m) t rest g = place_aligned e t _ (tt, (tt, (tt, g)))
     value_aligned place ty (tree.address_of e) t rest g = place_aligned e t rest g
     value_aligned place ty (tree.decay e) t rest g = place_aligned e t rest g
-    value_aligned place ty (tree.convert e) t rest g = expr_aligned e t _ (converts_aligned place ty t rest g)
+    value_aligned place ty (tree.convert e) t rest g = expr_aligned e t _ (converts_aligned place (tree.type_of e) ty t rest g)
     value_aligned place ty (tree.not_ e) t rest g = expr_aligned e t _ (((tt, tt), (tt, tt)), g)
     value_aligned place ty (tree.binary op d e) t rest g = expr_aligned d t _ (expr_aligned e (suc t) _ (tt, g))
     value_aligned place ty (tree.and_also d e) t rest g =

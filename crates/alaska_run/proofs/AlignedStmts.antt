@@ -3,14 +3,14 @@ use Rattle.std.proofs.Common.{ℕ, suc, ◌==◌, Bool, true, false, if◌then�
 use Rattle.ak_words.specs.declared.int_type.IntType.{IntType}
 use Rattle.ak_words.specs.declared.operation.Op.{Op}
 use Rattle.c_tree.specs.Typed as tree
-use Rattle.c_meaning.specs.Values.{is_scalar, is_atomic, is_minus}
+use Rattle.c_meaning.specs.Values.{is_scalar, is_atomic, operand_types, is_minus}
 use Rattle.c_meaning.specs.Switches.{stands_at}
 use Rattle.c_meaning.specs.Turns.{is_struct}
 use Rattle.struct_ir.specs.Nodes.{Place, Nodes, no_nodes}
-use Rattle.lower_forms.specs.Forms.{Frame, looped, switched, home, first_temp, behind, reach, is_void, value_nodes, object_place, dropped_nodes, dropped_value, begins, ends, objects_by, objects_in, initialises, store_nodes, copy_nodes, own_register, assign_nodes, computes, change_nodes, update_nodes, choose_nodes, begin_if, label_nodes, stmt_place, guarded, break_nodes, test_nodes, stmt_nodes, form_nodes, row_nodes, switch_nodes}
+use Rattle.lower_forms.specs.Forms.{Frame, looped, switched, home, first_temp, behind, reach, is_void, value_nodes, object_place, dropped_nodes, dropped_value, begins, ends, objects_by, objects_in, initialises, store_nodes, copy_nodes, own_register, assign_nodes, number_type, computes, change_nodes, update_nodes, choose_nodes, begin_if, label_nodes, stmt_place, guarded, break_nodes, test_nodes, stmt_nodes, form_nodes, row_nodes, switch_nodes}
 use Rattle.alaska_run.proofs.AlignedTypes.{AreTypesAligned}
 use Rattle.alaska_run.proofs.AlignedRows.{AreAligned}
-use Rattle.alaska_run.proofs.AlignedExprs.{expr_aligned, value_aligned, place_aligned, object_aligned, args_aligned}
+use Rattle.alaska_run.proofs.AlignedExprs.{becomes_aligned, expr_aligned, value_aligned, place_aligned, object_aligned, args_aligned}
 
 -- whichever of the two it is
 either_aligned : (b : Bool) (m n : Nodes) → AreAligned m → AreAligned n → AreAligned (if b then m else n)
@@ -34,7 +34,9 @@ initialises_aligned place (Some object) n t ty rest g = (tt, (tt, g))
 -- ---- compound assignments
 
 computes_aligned : (structs : List tree.Layout) (place : ℕ) (op : Op) (u v : tree.Ty) (m n to : ℕ) (rest : Nodes) → AreAligned rest → AreAligned (computes structs place op u v m n to rest)
-computes_aligned structs place op (tree.integer u) v m n to rest g = (tt, (tt, (tt, (tt, g))))
+computes_aligned structs place op (tree.integer u) v m n to rest g =
+    let types = operand_types op u (number_type v) in
+    becomes_aligned place u types.0 m _ (becomes_aligned place (number_type v) types.1 n _ (tt, becomes_aligned place types.0 u to rest g))
 computes_aligned structs place op tree.void v m n to rest g = (tt, g)
 computes_aligned structs place op (tree.atomic u) v m n to rest g = (tt, g)
 computes_aligned structs place op tree.mutex v m n to rest g = (tt, g)
