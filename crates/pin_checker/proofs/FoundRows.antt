@@ -18,7 +18,7 @@ use Rattle.pin_checker.specs.declared.fault.Fault.{Fault}
 use Rattle.pin_checker.specs.declared.search.Search.{Search as CodeSearch}
 use Rattle.pin_checker.specs.declared.search.Search.TheVariants as searches
 use Rattle.pin_checker.specs.Faults.{rank}
-use Rattle.pin_checker.specs.inner.Reports.{Search, is_before, earlier, noted, report, report_node, has_bare}
+use Rattle.pin_checker.specs.inner.Reports.{Search, is_before, earlier, noted, report, report_node}
 use Rattle.pin_checker.specs.inner.SearchViews.{search_view, blames_at}
 use Rattle.pin_checker.specs.inner.Found.{is_leaf, Found, Both, both_of, found_in, found_at, from, earlier_of, behind, one_of, round_from, looped}
 use Rattle.pin_checker.proofs.ReportRows as rows

@@ -1,9 +1,8 @@
-use Rattle.std.proofs.Common.{◌≡◌, true, refl, ap, ◌∙◌, inl, inr}
+use Rattle.std.proofs.Common.{refl, ap, ◌∙◌, inl, inr}
 use Rattle.struct_ir.specs.Views.{nodes_view}
 use Rattle.pin_flow.specs.Marks.{good, bad}
-use Rattle.pin_flow.specs.Views.{state_view}
 use Rattle.pin_checker.specs.inner.SearchViews.{search_view}
-use Rattle.pin_checker.specs.inner.Found.{Both, both_of, found_in, found_view, both_view}
+use Rattle.pin_checker.specs.inner.Found.{both_of, found_in, found_view, both_view}
 use Rattle.pin_checker.proofs.FoundRows.{idle_search, followed, row_on, row_over, row_start, branches_found, rounds_found, leaf_of}
 use Rattle.pin_checker.proofs.found.+founds.Goals as goal
 

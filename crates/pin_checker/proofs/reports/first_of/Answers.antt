@@ -1,9 +1,8 @@
 use Rattle.std.proofs.Common.{ap, ◌∙◌}
 use Rattle.struct_ir.specs.Views.{nodes_view}
-use Rattle.pin_flow.specs.Views.{state_view}
 use Rattle.pin_flow.specs.Marks.{state_of}
 use Rattle.pin_checker.specs.inner.SearchViews.{search_view}
-use Rattle.pin_checker.specs.inner.Found.{Found, both_of, found_in, from}
+use Rattle.pin_checker.specs.inner.Found.{Found, from}
 use Rattle.pin_checker.proofs.FoundRows.{idle_search, from_row}
 use Rattle.pin_checker.proofs.reports.first_of.Goals as goal
 
