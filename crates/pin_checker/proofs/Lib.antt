@@ -2,7 +2,7 @@ pub mod Facts
 pub mod Order
 pub mod ReportRows
 pub mod Stronger
-pub mod CleanRows
+pub mod FoundRows
 pub mod Least
 pub mod Pairs
 pub mod Sound

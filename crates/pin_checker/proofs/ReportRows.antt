@@ -29,7 +29,7 @@ row_over s rows i t best all le inv = ap (λ l. report s (nodes_view l) t best) 
 
 -- ---- nodes that are not valid
 
-place_is : (p : ℕ) (k : NodeKind) → p ≡ node_place (kind_view p k)
+pub place_is : (p : ℕ) (k : NodeKind) → p ≡ node_place (kind_view p k)
 place_is p (kinds.Set to calc) = refl
 place_is p (kinds.If' temp shape one shape' other) = refl
 place_is p (kinds.Loop' shape body shape' latch) = refl

@@ -1,3 +1,4 @@
 -- What only the bodies of this crate stand on.
 pub mod Reports
 pub mod SearchViews
+pub mod Found

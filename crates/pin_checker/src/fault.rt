@@ -4,6 +4,7 @@ ghost use Rattle.std.specs.Prelude.{◌≡◌, Option};
 ghost use Rattle.pin_checker.specs.Faults.{rank};
 ghost use Rattle.pin_checker.specs.declared.fault.CheckFault.TheVariants as faults;
 ghost use Rattle.pin_checker.specs.inner.Reports.{is_before, earlier, noted};
+ghost use Rattle.pin_checker.specs.inner.Found.{earlier_of};
 
 use ak_words::NoMemory;
 use thiserror::Error;
@@ -76,6 +77,16 @@ fn earlier(f: Fault, best: Option<Fault>) -> Option<Fault>
     match best {
         None => Some(f),
         Some(g) => { if is_before(f, g) { Some(f) } else { Some(g) } }
+    }
+}
+
+/// The earlier one of what was found before and of what is found behind it.
+pub fn earlier_of(before: Option<Fault>, behind: Option<Fault>) -> Option<Fault>
+    ensures { result ≡ earlier_of before behind }
+{
+    match behind {
+        None => before,
+        Some(f) => earlier(f, before),
     }
 }
 

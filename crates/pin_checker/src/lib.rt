@@ -5,8 +5,8 @@
 
 pub mod checked;
 pub mod checking;
-mod clean;
 pub mod fault;
+mod found;
 mod guards;
 mod invalid;
 pub mod laws;

@@ -1,10 +1,7 @@
-use Rattle.std.proofs.Common.{◌≡◌, sym, None, subst}
+use Rattle.std.proofs.Common.{sym, ◌∙◌}
 use Rattle.struct_ir.specs.Views.{nodes_view}
-use Rattle.pin_checker.specs.inner.Reports.{for_lacking, report}
 use Rattle.pin_checker.proofs.Stronger.{pair_is}
 use Rattle.pin_checker.proofs.reports.report_pair.Goals as goal
 
-pub returns-then-clean_row : goal.returns-then-clean_row
-returns-then-clean_row c =
-    let ns = nodes_view c.args.nodes.now in
-    sym (pair_is ns c.args.q c.args.best (subst (λ t. report (for_lacking c.args.q) ns t None ≡ None) c.start.ensures (c.clean_row.ensures.none c.if-clean_row.true)))
+pub returns-in-None : goal.returns-in-None
+returns-in-None c = sym (pair_is (nodes_view c.args.nodes.now) c.args.q c.args.best (sym c.first_of.ensures ∙ c.in-None.is))
