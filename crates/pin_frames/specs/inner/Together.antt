@@ -102,5 +102,6 @@ unfoldable mutual
 abbrev pub AreKept : List ℕ → Nodes → (on out end : List ℕ) → Type 0
 AreKept bs ns on out end = (b i : ℕ) → slot_if bs b ≡ Some i → Kept i b ns (lives_in on out end i)
 
+-- the same of a node
 abbrev pub AreKeptIn : List ℕ → Node → (on out end : List ℕ) → Type 0
 AreKeptIn bs n on out end = (b i : ℕ) → slot_if bs b ≡ Some i → KeptIn i b n (lives_in on out end i)
