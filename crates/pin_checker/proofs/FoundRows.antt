@@ -164,11 +164,10 @@ from_node s i n bad = refl
 abbrev pub followed : Search → Found → Nodes → Found
 followed s a ns = record { ways = in_turn a.ways (flow s.mark ns a.ways.on); first = report s ns a.ways.on a.first }
 
-pub row_on : (s : Search) → IsIdle s → (list : List CodeNode) (i : ℕ) (x : CodeNode) (a b all : Found) (n : Both) → i < length list → x ≡ get_or list i x → followed s a (nodes_view (drop i list)) ≡ all
-    → n ≡ both_of (found_at s (node_view x)) → b ≡ behind a n → followed s b (nodes_view (drop (i + 1) list)) ≡ all
-row_on s q list i x a b all n le is inv e f =
-    let o : from n a.ways.on ≡ found_at s (node_view x) a.ways.on = ap (λ z. from z a.ways.on) e ∙ from_node s q (node_view x) a.ways.on in
-    let w = flows.row_on s.mark list i x a.ways b.ways (from n a.ways.on).ways all.ways le is (ap (λ (z : Found). z.ways) inv) (ap (λ (z : Found). z.ways) o) (ap (λ (z : Found). z.ways) f) in
+pub row_on : (s : Search) (list : List CodeNode) (i : ℕ) (x : CodeNode) (a b all n : Found) → i < length list → x ≡ get_or list i x → followed s a (nodes_view (drop i list)) ≡ all
+    → n ≡ found_at s (node_view x) a.ways.on → b ≡ behind a n → followed s b (nodes_view (drop (i + 1) list)) ≡ all
+row_on s list i x a b all n le is inv o f =
+    let w = flows.row_on s.mark list i x a.ways b.ways n.ways all.ways le is (ap (λ (z : Found). z.ways) inv) (ap (λ (z : Found). z.ways) o) (ap (λ (z : Found). z.ways) f) in
     let r : b.first ≡ report_node s (node_view x) a.ways.on a.first =
     ap (λ (z : Found). z.first) f ∙ (ap (λ (z : Found). earlier_of a.first z.first) o ∙ sym (node_from s (node_view x) a.ways.on a.first)) in
     let h : b.ways.on ≡ (flow_node s.mark (node_view x) a.ways.on).on = ap (λ (z : Found). z.ways.on) f ∙ ap (λ (z : Found). z.ways.on) o in
@@ -190,6 +189,10 @@ row_start s ns t = λ j. record { ways = flow s.mark ns t; first = report s ns t
 if_found : (s : Search) (p x : ℕ) (one other : Nodes) (t : State) → one_of (found_in s one t) (found_in s other t) ≡ found_at s (if_ p x one other) t
 unfolding flow report_node
 if_found s p x one other t = λ j. record { ways = flow_node s.mark (if_ p x one other) t; first = sym (report_from s other t (report s one t None)) j }
+
+pub branch_found : (s : Search) (n : CodeNode) (temp : ℕ) (v w : Vec CodeNode) (t : State) (a b c : Found) → n.kind ≡ views.If temp v w → a ≡ found_in s (nodes_view v.items) t → b ≡ found_in s (nodes_view w.items) t → c ≡ one_of a b
+    → c ≡ found_at s (node_view n) t
+branch_found s n temp v w t a b c is e f g = rw (if_is n temp v w is) (g ∙ ((λ j. one_of (e j) (f j)) ∙ if_found s n.place temp (nodes_view v.items) (nodes_view w.items) t))
 
 pub branches_found : (s : Search) (n : CodeNode) (temp : ℕ) (v w : Vec CodeNode) (a b c : Both) → n.kind ≡ views.If temp v w → a ≡ both_of (found_in s (nodes_view v.items)) → b ≡ both_of (found_in s (nodes_view w.items))
     → c.good ≡ one_of a.good b.good → c.bad ≡ one_of a.bad b.bad → c ≡ both_of (found_at s (node_view n))

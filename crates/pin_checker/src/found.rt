@@ -1,11 +1,11 @@
-//! What a search finds in code: each node is gone through once, for both states in which a path may come to it.
+//! What a search finds in code. Each node is gone through once: in a loop for both states in which a path may come to it, since only the whole
+//! round tells in which one it starts, and elsewhere for the one that is known.
 
 ghost use Rattle.std.specs.Prelude.{◌≡◌, true, None};
 ghost use Rattle.struct_ir.specs.Views.{node_view, nodes_view};
-ghost use Rattle.pin_flow.specs.Marks.{flow_node};
-ghost use Rattle.pin_flow.specs.Views.{state_view, ways_view};
-ghost use Rattle.pin_checker.specs.inner.Reports.{noted};
-ghost use Rattle.pin_checker.specs.inner.SearchViews.{search_view, blames_at};
+ghost use Rattle.pin_flow.specs.Marks.{at};
+ghost use Rattle.pin_flow.specs.Views.{state_view};
+ghost use Rattle.pin_checker.specs.inner.SearchViews.{search_view};
 ghost use Rattle.pin_checker.specs.inner.Found.{is_leaf, both_of, found_in, found_at, from, behind, one_of, round_from, looped, found_view, both_view};
 
 use crate::fault::{Fault, earlier_of, noted};
@@ -34,7 +34,7 @@ pub struct Both {
 
 // No nodes.
 fn nothing(before: State) -> Found
-    ensures { found_view result ≡ record { ways = Rattle.pin_flow.specs.Marks.at (state_view before); first = None } }
+    ensures { found_view result ≡ record { ways = at (state_view before); first = None } }
 {
     Found {
         ways: all_on(before),
@@ -42,8 +42,8 @@ fn nothing(before: State) -> Found
     }
 }
 
-/// What is found from this state.
-pub fn from(both: Both, before: State) -> Found
+// What is found from this state.
+fn from(both: Both, before: State) -> Found
     ensures { found_view result ≡ from (both_view both) (state_view before) }
 {
     match before {
@@ -54,13 +54,12 @@ pub fn from(both: Both, before: State) -> Found
 }
 
 // A node behind others.
-fn behind(a: Found, n: Both) -> Found
-    ensures { found_view result ≡ behind (found_view a) (both_view n) }
+fn behind(a: Found, n: Found) -> Found
+    ensures { found_view result ≡ behind (found_view a) (found_view n) }
 {
-    let next = from(n, a.ways.on);
     Found {
-        ways: one_behind(a.ways, next.ways),
-        first: earlier_of(a.first, next.first),
+        ways: one_behind(a.ways, n.ways),
+        first: earlier_of(a.first, n.first),
     }
 }
 
@@ -98,10 +97,9 @@ fn looped(body: Both, step: Both, before: State) -> Found
     }
 }
 
-// The node itself, from this state.
+// A node that holds no others, from this state.
 fn itself(search: Search, n: &Node, before: State) -> Found
-    ensures ways { ways_view result.ways ≡ flow_node (search_view search).mark (node_view n.now) (state_view before) }
-    ensures first { result.first ≡ noted (blames_at (search_view search) (node_view n.now) (state_view before)) n.now.place (search_view search).why None }
+    ensures { is_leaf (node_view n.now) ≡ true → found_view result ≡ found_at (search_view search) (node_view n.now) (state_view before) }
 {
     Found {
         ways: ways_of_node(search.mark(), n, before),
@@ -109,7 +107,7 @@ fn itself(search: Search, n: &Node, before: State) -> Found
     }
 }
 
-// A node that holds no others.
+// A node that holds no others, from either state.
 fn alone(search: Search, n: &Node) -> Both
     ensures { is_leaf (node_view n.now) ≡ true → both_view result ≡ both_of (found_at (search_view search) (node_view n.now)) }
 {
@@ -119,9 +117,9 @@ fn alone(search: Search, n: &Node) -> Both
     }
 }
 
-/// What is found in the row.
-#[cycle(founds)]
-pub fn found_in(search: Search, rows: &[Node]) -> Both
+// What is found in the row, from either state.
+#[cycle(boths)]
+fn both_in(search: Search, rows: &[Node]) -> Both
     ensures { both_view result ≡ both_of (found_in (search_view search) (nodes_view rows.now)) }
 {
     let mut both = Both {
@@ -129,31 +127,31 @@ pub fn found_in(search: Search, rows: &[Node]) -> Both
         bad: nothing(State::Bad),
     };
     for n in rows {
-        let next = found_at(search, n);
+        let next = both_at(search, n);
         both = Both {
-            good: behind(both.good, next),
-            bad: behind(both.bad, next),
+            good: behind(both.good, from(next, both.good.ways.on)),
+            bad: behind(both.bad, from(next, both.bad.ways.on)),
         };
     }
     both
 }
 
-#[cycle(founds)]
-fn found_at(search: Search, n: &Node) -> Both
+#[cycle(boths)]
+fn both_at(search: Search, n: &Node) -> Both
     ensures { both_view result ≡ both_of (found_at (search_view search) (node_view n.now)) }
 {
     match &n.kind {
         NodeKind::If(_, one, other) => {
-            let first = found_in(search, one);
-            let second = found_in(search, other);
+            let first = both_in(search, one);
+            let second = both_in(search, other);
             Both {
                 good: one_of(first.good, second.good),
                 bad: one_of(first.bad, second.bad),
             }
         }
         NodeKind::Loop(body, step) => {
-            let first = found_in(search, body);
-            let second = found_in(search, step);
+            let first = both_in(search, body);
+            let second = both_in(search, step);
             Both {
                 good: looped(first, second, State::Good),
                 bad: looped(first, second, State::Bad),
@@ -164,5 +162,37 @@ fn found_at(search: Search, n: &Node) -> Both
         }
         NodeKind::Safepoint(_) | NodeKind::Begin(_) | NodeKind::End(_) => alone(search, n),
         NodeKind::Break | NodeKind::Next | NodeKind::Ret(_) => alone(search, n),
+    }
+}
+
+/// What is found in the row from this state.
+#[cycle(founds)]
+pub fn found_in(search: Search, rows: &[Node], before: State) -> Found
+    ensures { found_view result ≡ found_in (search_view search) (nodes_view rows.now) (state_view before) }
+{
+    let mut all = nothing(before);
+    for n in rows {
+        let next = found_at(search, n, all.ways.on);
+        all = behind(all, next);
+    }
+    all
+}
+
+#[cycle(founds)]
+fn found_at(search: Search, n: &Node, before: State) -> Found
+    ensures { found_view result ≡ found_at (search_view search) (node_view n.now) (state_view before) }
+{
+    match &n.kind {
+        NodeKind::If(_, one, other) => {
+            let first = found_in(search, one, before);
+            let second = found_in(search, other, before);
+            one_of(first, second)
+        }
+        NodeKind::Loop(..) => from(both_at(search, n), before),
+        NodeKind::Set(..) | NodeKind::Call(_) | NodeKind::Step(_) | NodeKind::Look(..) => {
+            itself(search, n, before)
+        }
+        NodeKind::Safepoint(_) | NodeKind::Begin(_) | NodeKind::End(_) => itself(search, n, before),
+        NodeKind::Break | NodeKind::Next | NodeKind::Ret(_) => itself(search, n, before),
     }
 }

@@ -7,7 +7,7 @@ ghost use Rattle.pin_checker.specs.inner.Reports.{report_all, report_pair, repor
 ghost use Rattle.pin_checker.specs.inner.SearchViews.{search_view};
 
 use crate::fault::{Fault, earlier_of};
-use crate::found::{found_in, from};
+use crate::found::found_in;
 use crate::invalid::report_invalid;
 use crate::pair::{Pair, add_pairs};
 use crate::search::Search;
@@ -21,7 +21,7 @@ use struct_ir::{Ir, IrFunc, Node};
 fn first_of(search: Search, nodes: &[Node]) -> Option<Fault>
     ensures { result ≡ report_all (search_view search) (nodes_view nodes.now) None }
 {
-    from(found_in(search, nodes), search.start()).first
+    found_in(search, nodes, search.start()).first
 }
 
 fn report_all(search: Search, nodes: &[Node], best: Option<Fault>) -> Option<Fault>

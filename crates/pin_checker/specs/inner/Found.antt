@@ -51,8 +51,8 @@ earlier_of before None = before
 earlier_of before (Some f) = earlier f before
 
 -- nodes, and one behind them
-abbrev pub behind : Found → Both → Found
-behind a n = record { ways = in_turn a.ways (from n a.ways.on).ways; first = earlier_of a.first (from n a.ways.on).first }
+abbrev pub behind : Found → Found → Found
+behind a n = record { ways = in_turn a.ways n.ways; first = earlier_of a.first n.first }
 
 -- of two branches
 abbrev pub one_of : Found → Found → Found

@@ -1,53 +1,39 @@
-use Rattle.std.proofs.Common.{refl, ap, ◌∙◌, inl, inr}
-use Rattle.struct_ir.specs.Views.{nodes_view}
-use Rattle.pin_flow.specs.Marks.{good, bad}
+use Rattle.std.proofs.Common.{ap, ◌∙◌, refl, inl, inr}
+use Rattle.struct_ir.specs.Views.{node_view, nodes_view}
+use Rattle.pin_flow.specs.Views.{state_view}
 use Rattle.pin_checker.specs.inner.SearchViews.{search_view}
-use Rattle.pin_checker.specs.inner.Found.{both_of, found_in, found_view, both_view}
-use Rattle.pin_checker.proofs.FoundRows.{idle_search, followed, row_on, row_over, row_start, branches_found, rounds_found, leaf_of}
+use Rattle.pin_checker.specs.inner.Found.{found_in, from, found_view}
+use Rattle.pin_checker.proofs.FoundRows.{idle_search, followed, row_on, row_over, row_start, branch_found, from_node, leaf_of}
 use Rattle.pin_checker.proofs.found.+founds.Goals as goal
 
 pub found_in-loop-n-init : goal.found_in-loop-n-init
 found_in-loop-n-init t c =
     let s = search_view c.args.search in
     let rows = nodes_view c.args.rows.now in
-    record {
-      good = ap (λ a. followed s a rows) c.nothing.ensures ∙ row_start s rows good;
-      bad = ap (λ a. followed s a rows) c.nothing-2.ensures ∙ row_start s rows bad;
-    }
+    ap (λ a. followed s a rows) c.nothing-all.ensures ∙ row_start s rows (state_view c.args.before)
 
 pub found_in-loop-n-preserved : goal.found_in-loop-n-preserved
 found_in-loop-n-preserved t c =
-    let s = search_view c.args.search in
-    let q = idle_search c.args.search in
-    let n = both_view c.found_at-next.result in
-    record {
-      good = row_on s q c.args.rows.now c.loop-n.n-index c.n-item.result (found_view c.loop-n.both.good) (found_view c.behind.result) _ n c.loop-n-test.true c.n-item.is c.loop-n.invariant.good c.found_at-next.ensures c.behind.ensures;
-      bad = row_on s q c.args.rows.now c.loop-n.n-index c.n-item.result (found_view c.loop-n.both.bad) (found_view c.behind-in-loop-n.result) _ n c.loop-n-test.true c.n-item.is c.loop-n.invariant.bad c.found_at-next.ensures c.behind-in-loop-n.ensures;
-    }
+    row_on (search_view c.args.search) c.args.rows.now c.loop-n.n-index c.n-item.result (found_view c.loop-n.all) (found_view c.behind-all.result) _ (found_view c.found_at-next.result) c.loop-n-test.true c.n-item.is c.loop-n.invariant
+    c.found_at-next.ensures c.behind-all.ensures
 
 pub found_in-returns : goal.found_in-returns
-found_in-returns t c =
-    let s = search_view c.args.search in
-    let g = row_over s c.args.rows.now c.loop-n.n-index (found_view c.loop-n.both.good) _ c.loop-n-test.false c.loop-n.invariant.good in
-    let b = row_over s c.args.rows.now c.loop-n.n-index (found_view c.loop-n.both.bad) _ c.loop-n-test.false c.loop-n.invariant.bad in
-    λ i. record { good = g i; bad = b i }
+found_in-returns t c = row_over (search_view c.args.search) c.args.rows.now c.loop-n.n-index (found_view c.loop-n.all) _ c.loop-n-test.false c.loop-n.invariant
 
 pub found_at-returns-in-If : goal.found_at-returns-in-If
 found_at-returns-in-If t c =
     let s = search_view c.args.search in
-    branches_found s c.args.n.now c.in-If.field-0 c.in-If.one c.in-If.other (both_view c.found_in-first.result) (both_view c.found_in-second.result) _ c.in-If.is
-    (c.found_in-first.ensures ∙ ap (λ l. both_of (found_in s (nodes_view l))) c.deref.ensures.value)
-    (c.found_in-second.ensures ∙ ap (λ l. both_of (found_in s (nodes_view l))) c.deref-in-If.ensures.value) c.one_of.ensures c.one_of-in-If.ensures
+    let t = state_view c.args.before in
+    branch_found s c.args.n.now c.in-If.field-0 c.in-If.one c.in-If.other t (found_view c.found_in-first.result) (found_view c.found_in-second.result) (found_view c.one_of.result) c.in-If.is
+    (c.found_in-first.ensures ∙ ap (λ l. found_in s (nodes_view l) t) c.deref.ensures.value) (c.found_in-second.ensures ∙ ap (λ l. found_in s (nodes_view l) t) c.deref-in-If.ensures.value) c.one_of.ensures
 
 pub found_at-returns-in-Loop : goal.found_at-returns-in-Loop
 found_at-returns-in-Loop t c =
-    let s = search_view c.args.search in
-    rounds_found s (idle_search c.args.search) c.args.n.now c.in-Loop.body c.in-Loop.step (both_view c.found_in-first-in-Loop.result) (both_view c.found_in-second-in-Loop.result) _ c.in-Loop.is
-    (c.found_in-first-in-Loop.ensures ∙ ap (λ l. both_of (found_in s (nodes_view l))) c.deref-in-Loop.ensures.value)
-    (c.found_in-second-in-Loop.ensures ∙ ap (λ l. both_of (found_in s (nodes_view l))) c.deref-in-Loop-2.ensures.value) c.looped.ensures c.looped-in-Loop.ensures
+    let t = state_view c.args.before in
+    c.from.ensures ∙ (ap (λ z. from z t) c.both_at.ensures ∙ from_node (search_view c.args.search) (idle_search c.args.search) (node_view c.args.n.now) t)
 
 pub found_at-returns-in-Set : goal.found_at-returns-in-Set
-found_at-returns-in-Set t c = c.alone-in-Set.ensures (elim c.in-Set.is [
+found_at-returns-in-Set t c = c.itself-in-Set.ensures (elim c.in-Set.is [
   | inl (x, y, e) ↦ leaf_of c.args.n.now _ e refl
   | inr (inl (x, e)) ↦ leaf_of c.args.n.now _ e refl
   | inr (inr (inl (x, e))) ↦ leaf_of c.args.n.now _ e refl
@@ -55,14 +41,14 @@ found_at-returns-in-Set t c = c.alone-in-Set.ensures (elim c.in-Set.is [
 ])
 
 pub found_at-returns-in-Safepoint : goal.found_at-returns-in-Safepoint
-found_at-returns-in-Safepoint t c = c.alone-in-Safepoint.ensures (elim c.in-Safepoint.is [
+found_at-returns-in-Safepoint t c = c.itself-in-Safepoint.ensures (elim c.in-Safepoint.is [
   | inl (x, e) ↦ leaf_of c.args.n.now _ e refl
   | inr (inl (x, e)) ↦ leaf_of c.args.n.now _ e refl
   | inr (inr (x, e)) ↦ leaf_of c.args.n.now _ e refl
 ])
 
 pub found_at-returns-in-Break : goal.found_at-returns-in-Break
-found_at-returns-in-Break t c = c.alone.ensures (elim c.in-Break.is [
+found_at-returns-in-Break t c = c.itself.ensures (elim c.in-Break.is [
   | inl e ↦ leaf_of c.args.n.now _ e refl
   | inr (inl e) ↦ leaf_of c.args.n.now _ e refl
   | inr (inr (x, e)) ↦ leaf_of c.args.n.now _ e refl
