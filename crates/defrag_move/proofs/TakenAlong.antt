@@ -115,8 +115,8 @@ module _ (pinned : ℕ → Bool) (start : ℕ) (table : List (Option ℕ)) (befo
     }
 
 -- what one who reads the objects of the sub-heaps finds
-pub found_by_reader : {from : ℕ} {objects : List Object} {h : SubHeaps} {found : Option Object} → objects ≡ h.objects → found ≡ find (λ x. leb from x.at) objects → found ≡ find (λ x. leb from x.at) h.objects
-found_by_reader {from} {objects} {h} {found} same is = is ∙ ap (λ (os : List Object). find (λ x. leb from x.at) os) same
+pub found_by_reader : (from : ℕ) {objects all : List Object} {found : Option Object} → objects ≡ all → found ≡ find (λ x. leb from x.at) objects → found ≡ find (λ x. leb from x.at) all
+found_by_reader from {objects} {all} {found} same is = is ∙ ap (λ (os : List Object). find (λ x. leb from x.at) os) same
 
 -- by index
 pub Carries-got : (pinned : ℕ → Bool) (start : ℕ) (table : List (Option ℕ)) (before : SubHeaps) (bytes : List ℕ) (ms : List Move) (i : ℕ) (m : Move) (whole : Storage) → slice_get ms i ≡ Some m → Carries pinned start table before bytes (drop i ms) whole → Carries pinned start table before bytes (m ∷ drop (i + 1) ms) whole

@@ -49,12 +49,7 @@ fn room_within(heaps: &Heaps, pins: &Pins, number: u32) -> u32
 }
 
 // The lowest object of the sub-heap of this number that starts at or above `from`.
-fn next_within(
-    heaps: &Heaps,
-    reader: &mut Reader<'_>,
-    number: u32,
-    from: u32,
-) -> Option<Object>
+fn next_within(heaps: &Heaps, reader: &mut Reader<'_>, number: u32, from: u32) -> Option<Object>
     requires start { number * heaps.now.size ≤ from }
     requires objects { reader.old ≡ heaps.now.objects }
     ensures next { result ≡ find (λ o. nat_le from o.at) (objects_in heaps.now number) }

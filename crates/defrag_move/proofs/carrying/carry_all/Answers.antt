@@ -15,27 +15,27 @@ loop-next-init c = record {
 pub unreachable-requires : goal.unreachable-requires
 unreachable-requires c =
     let next = Carries-got (is_pinned c.args.pins.now) c.args.start c.loop-next.table c.args.heaps.now c.loop-next.bytes c.args.moves.now c.loop-next.next-index _ _ (slice_get-get_or c.args.moves.now c.loop-next.next-index _ c.loop-next-test.true) c.loop-next.invariant.carries in
-    object_is_there _ _ _ _ _ _ _ _ c.reader-reader.ensures.sound next (found_by_reader c.loop-next.invariant.reader c.in_default.ensures.next)
+    object_is_there _ _ _ _ _ _ _ _ c.reader-reader.ensures.sound next (found_by_reader _ c.loop-next.invariant.reader c.in_default.ensures.next)
 
 pub carry-requires-clause-in_use : goal.carry-requires-clause-in_use
 carry-requires-clause-in_use c =
     let next = Carries-got (is_pinned c.args.pins.now) c.args.start c.loop-next.table c.args.heaps.now c.loop-next.bytes c.args.moves.now c.loop-next.next-index _ _ (slice_get-get_or c.args.moves.now c.loop-next.next-index _ c.loop-next-test.true) c.loop-next.invariant.carries in
-    carry_in_use _ _ _ _ _ _ _ _ c.reader-reader.ensures.sound next c.in-Some.object (found_by_reader c.loop-next.invariant.reader c.in-Some.ensures.next)
+    carry_in_use _ _ _ _ _ _ _ _ c.reader-reader.ensures.sound next c.in-Some.object (found_by_reader _ c.loop-next.invariant.reader c.in-Some.ensures.next)
 
 pub carry-requires-clause-from : goal.carry-requires-clause-from
 carry-requires-clause-from c =
     let next = Carries-got (is_pinned c.args.pins.now) c.args.start c.loop-next.table c.args.heaps.now c.loop-next.bytes c.args.moves.now c.loop-next.next-index _ _ (slice_get-get_or c.args.moves.now c.loop-next.next-index _ c.loop-next-test.true) c.loop-next.invariant.carries in
-    carry_from _ _ _ _ _ _ _ _ c.reader-reader.ensures.sound next c.in-Some.object (found_by_reader c.loop-next.invariant.reader c.in-Some.ensures.next)
+    carry_from _ _ _ _ _ _ _ _ c.reader-reader.ensures.sound next c.in-Some.object (found_by_reader _ c.loop-next.invariant.reader c.in-Some.ensures.next)
 
 pub carry-requires-clause-to : goal.carry-requires-clause-to
 carry-requires-clause-to c =
     let next = Carries-got (is_pinned c.args.pins.now) c.args.start c.loop-next.table c.args.heaps.now c.loop-next.bytes c.args.moves.now c.loop-next.next-index _ _ (slice_get-get_or c.args.moves.now c.loop-next.next-index _ c.loop-next-test.true) c.loop-next.invariant.carries in
-    carry_to _ _ _ _ _ _ _ _ c.reader-reader.ensures.sound next c.in-Some.object (found_by_reader c.loop-next.invariant.reader c.in-Some.ensures.next)
+    carry_to _ _ _ _ _ _ _ _ c.reader-reader.ensures.sound next c.in-Some.object (found_by_reader _ c.loop-next.invariant.reader c.in-Some.ensures.next)
 
 pub loop-next-preserved : goal.loop-next-preserved
 loop-next-preserved c =
     let next = Carries-got (is_pinned c.args.pins.now) c.args.start c.loop-next.table c.args.heaps.now c.loop-next.bytes c.args.moves.now c.loop-next.next-index _ _ (slice_get-get_or c.args.moves.now c.loop-next.next-index _ c.loop-next-test.true) c.loop-next.invariant.carries in
     record {
-      carries = Carries-next _ _ _ _ _ _ _ _ c.reader-reader.ensures.sound next c.in-Some.object (found_by_reader c.loop-next.invariant.reader c.in-Some.ensures.next) c.carry.new.table c.carry.new.bytes c.carry.ensures.table c.carry.ensures.bytes;
+      carries = Carries-next _ _ _ _ _ _ _ _ c.reader-reader.ensures.sound next c.in-Some.object (found_by_reader _ c.loop-next.invariant.reader c.in-Some.ensures.next) c.carry.new.table c.carry.new.bytes c.carry.ensures.table c.carry.ensures.bytes;
       reader = c.in-Some.ensures.same ∙ c.loop-next.invariant.reader;
     }
