@@ -114,6 +114,10 @@ module _ (pinned : ℕ → Bool) (start : ℕ) (table : List (Option ℕ)) (befo
           ms c.there.1 (rise_above (suc m.from) ms c.rises.1) (recursion_from_All (λ n. n.from ≢ m.to) ms c.legal.1);
     }
 
+-- what one who reads the objects of the sub-heaps finds
+pub found_by_reader : (from : ℕ) {objects all : List Object} {found : Option Object} → objects ≡ all → found ≡ find (λ x. leb from x.at) objects → found ≡ find (λ x. leb from x.at) all
+found_by_reader from {objects} {all} {found} same is = is ∙ ap (λ (os : List Object). find (λ x. leb from x.at) os) same
+
 -- by index
 pub Carries-got : (pinned : ℕ → Bool) (start : ℕ) (table : List (Option ℕ)) (before : SubHeaps) (bytes : List ℕ) (ms : List Move) (i : ℕ) (m : Move) (whole : Storage) → slice_get ms i ≡ Some m → Carries pinned start table before bytes (drop i ms) whole → Carries pinned start table before bytes (m ∷ drop (i + 1) ms) whole
 Carries-got pinned start table before bytes ms i m whole got c = subst (λ rest. Carries pinned start table before bytes rest whole) (drop_got ms i m got) c

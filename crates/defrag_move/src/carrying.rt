@@ -28,8 +28,9 @@ pub fn carry_all(
     ensures table { table.new ≡ (after_plan moves.now (record { start = start; table = table.old; heaps = heaps.now; bytes = bytes.old })).table }
     ensures bytes { bytes.new ≡ (after_plan moves.now (record { start = start; table = table.old; heaps = heaps.now; bytes = bytes.old })).bytes }
 {
+    let mut reader = heaps.reader();
     for next in moves {
-        let Some(object) = heaps.next_object(next.from) else {
+        let Some(object) = reader.next_object(next.from) else {
             unreachable!()
         };
         carry(table, bytes, start, object, next.to);

@@ -83,3 +83,10 @@ IsStep-found h sound from o found =
       rounded = stand.2;
       within = end_inside h.size (omega (arith, sound.shape.size_least)) h.count o.size o.at stand.1;
     }
+
+-- the same step where one who reads the objects finds it
+pub IsStep-read : (h : SubHeaps) → IsSound h → (from : ℕ) (o : Object) (objects : List Object) → objects ≡ h.objects → Some o ≡ find (λ o. leb from o.at) objects → IsStep h from o
+IsStep-read h sound from o objects same found = IsStep-found h sound from o (subst (λ (os : List Object). Some o ≡ find (λ o. leb from o.at) os) same found)
+
+pub rest_none-read : (from : ℕ) (objects xs : List Object) → objects ≡ xs → None ≡ find (λ o. leb from o.at) objects → rest_from from xs ≡ []
+rest_none-read from objects xs same none = subst (λ (os : List Object). rest_from from os ≡ []) same (rest_none from objects (sym none))

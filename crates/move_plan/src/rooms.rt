@@ -6,7 +6,7 @@ ghost use Rattle.move_plan.specs.Sliding.{IsSlid};
 ghost use Rattle.move_plan.specs.Stretches.{room_in, room_of, IsLongestGap};
 
 use crate::pinned::Pins;
-use sub_heaps::{Heaps, Object};
+use sub_heaps::{Heaps, Object, Reader};
 
 /// The greatest room of a sub-heap, in bytes: the pinned objects and the two ends of a sub-heap bound
 /// stretches, and its room is the greatest of a stretch's length less the sizes of the unpinned objects in it.
@@ -29,12 +29,13 @@ fn room_within(heaps: &Heaps, pins: &Pins, number: u32) -> u32
     ensures { result ≡ room_in (is_pinned pins.now) heaps.now number }
 {
     let size = heaps.size();
+    let mut reader = heaps.reader();
     let mut at = number * size;
     let end = at + size;
     let mut from = at;
     let mut held = 0;
     let mut greatest: u32 = 0;
-    while let Some(object) = next_within(heaps, number, at) {
+    while let Some(object) = next_within(heaps, &mut reader, number, at) {
         if pins.has(object.at) {
             greatest = greatest.max(object.at - from - held);
             from = object.at + object.size;
@@ -48,10 +49,13 @@ fn room_within(heaps: &Heaps, pins: &Pins, number: u32) -> u32
 }
 
 // The lowest object of the sub-heap of this number that starts at or above `from`.
-fn next_within(heaps: &Heaps, number: u32, from: u32) -> Option<Object>
-    requires { number * heaps.now.size ≤ from }
-    ensures { result ≡ find (λ o. nat_le from o.at) (objects_in heaps.now number) }
+fn next_within(heaps: &Heaps, reader: &mut Reader<'_>, number: u32, from: u32) -> Option<Object>
+    requires start { number * heaps.now.size ≤ from }
+    requires objects { reader.old ≡ heaps.now.objects }
+    ensures next { result ≡ find (λ o. nat_le from o.at) (objects_in heaps.now number) }
+    ensures same { reader.new ≡ reader.old }
 {
-    let object = heaps.next_object(from)?;
-    (object.at / heaps.size() == number).then_some(object)
+    let size = heaps.size();
+    let object = reader.next_object(from)?;
+    (object.at / size == number).then_some(object)
 }

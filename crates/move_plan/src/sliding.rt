@@ -24,9 +24,10 @@ pub fn slide(heaps: &Heaps, pins: &Pins, into: &mut Plan)
     ensures longest { IsLongestGap (after_moves into.new.moves heaps.now) (room_of (is_pinned pins.now) heaps.now) }
 {
     let size = heaps.size();
+    let mut reader = heaps.reader();
     let mut below = 0;
     let mut from = 0;
-    while let Some(object) = heaps.next_object(from) {
+    while let Some(object) = reader.next_object(from) {
         let to = slid_place(pins, size, below, object);
         if to != object.at {
             into.push(Move {

@@ -10,6 +10,7 @@ pub mod Halves
 pub mod Kept
 pub mod Knowing
 pub mod Order
+pub mod Parts
 pub mod Sides
 pub mod Shifting
 pub mod Standing

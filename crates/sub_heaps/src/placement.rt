@@ -9,6 +9,7 @@ ghost use Rattle.sub_heaps.specs.SubHeaps.{IsShape, rounded, IsRounded, FitsAt, 
 use crate::changes::{insert, remove};
 use crate::moves::Move;
 use crate::objects::Object;
+use crate::reader::Reader;
 use crate::search::{first_inside, lowest_before, next_from, size_within};
 use crate::tree::{Node, Tree};
 use crate::walk::walk;
@@ -141,6 +142,14 @@ impl Heaps {
         ensures sound { IsSound self.now }
     {
         next_from(&self.tree, from)
+    }
+
+    /// A reader of the objects, for one who asks for them one after the other.
+    pub fn reader(&self) -> Reader<'_>
+        ensures objects { result ≡ self.now.objects }
+        ensures sound { IsSound self.now }
+    {
+        Reader::new(&self.tree)
     }
 
     /// How many objects live, and how many bytes they take together.

@@ -23,6 +23,7 @@ loop-object-init c =
     let all = rest_all h.count h.size (k * h.size) (k * h.size) (objects_in h k) (omega arith) (stand_in h c.size-size.ensures.sound k) in
     rw c.size-size.ensures.bytes (record {
       sound = c.size-size.ensures.sound;
+      reader = c.reader-reader.ensures.objects;
       size = refl;
       end = refl;
       start = omega arith;
@@ -34,35 +35,35 @@ loop-object-init c =
 -- the step over an object
 pub overflow_sub-object : goal.overflow_sub-object
 overflow_sub-object c =
-    let step = IsStepIn-found c.args.heaps.now c.loop-object.invariant.sound c.args.number c.loop-object.at c.in-Some.object c.in-Some.ensures in
+    let step = IsStepIn-found c.args.heaps.now c.loop-object.invariant.sound c.args.number c.loop-object.at c.in-Some.object c.in-Some.ensures.next in
     omega (arith, step.above, c.loop-object.invariant.held)
 
 pub overflow_sub-object-then-has : goal.overflow_sub-object-then-has
 overflow_sub-object-then-has c =
-    let step = IsStepIn-found c.args.heaps.now c.loop-object.invariant.sound c.args.number c.loop-object.at c.in-Some.object c.in-Some.ensures in
+    let step = IsStepIn-found c.args.heaps.now c.loop-object.invariant.sound c.args.number c.loop-object.at c.in-Some.object c.in-Some.ensures.next in
     omega (arith, step.above, c.loop-object.invariant.held)
 
 pub overflow_add-from : goal.overflow_add-from
 overflow_add-from c =
-    let step = IsStepIn-found c.args.heaps.now c.loop-object.invariant.sound c.args.number c.loop-object.at c.in-Some.object c.in-Some.ensures in
+    let step = IsStepIn-found c.args.heaps.now c.loop-object.invariant.sound c.args.number c.loop-object.at c.in-Some.object c.in-Some.ensures.next in
     let bound = end_bounded c.args.heaps.now c.loop-object.invariant.sound c.args.number c.requires in
     omega (arith, step.within, bound)
 
 pub overflow_add-held : goal.overflow_add-held
 overflow_add-held c =
-    let step = IsStepIn-found c.args.heaps.now c.loop-object.invariant.sound c.args.number c.loop-object.at c.in-Some.object c.in-Some.ensures in
+    let step = IsStepIn-found c.args.heaps.now c.loop-object.invariant.sound c.args.number c.loop-object.at c.in-Some.object c.in-Some.ensures.next in
     let bound = end_bounded c.args.heaps.now c.loop-object.invariant.sound c.args.number c.requires in
     omega (arith, step.within, step.above, bound, c.loop-object.invariant.held)
 
 pub overflow_add-at : goal.overflow_add-at
 overflow_add-at c =
-    let step = IsStepIn-found c.args.heaps.now c.loop-object.invariant.sound c.args.number c.loop-object.at c.in-Some.object c.in-Some.ensures in
+    let step = IsStepIn-found c.args.heaps.now c.loop-object.invariant.sound c.args.number c.loop-object.at c.in-Some.object c.in-Some.ensures.next in
     let bound = end_bounded c.args.heaps.now c.loop-object.invariant.sound c.args.number c.requires in
     omega (arith, step.within, bound)
 
 pub loop-object-smaller : goal.loop-object-smaller
 loop-object-smaller c =
-    let step = IsStepIn-found c.args.heaps.now c.loop-object.invariant.sound c.args.number c.loop-object.at c.in-Some.object c.in-Some.ensures in
+    let step = IsStepIn-found c.args.heaps.now c.loop-object.invariant.sound c.args.number c.loop-object.at c.in-Some.object c.in-Some.ensures.next in
     omega (arith, ap length step.left)
 
 pub loop-object-preserved : goal.loop-object-preserved
@@ -76,7 +77,7 @@ loop-object-preserved c =
     let end = c.args.number * c.size-size.result + c.size-size.result in
     let rest = rest_from (end_of o) (objects_in h c.args.number) in
     let room = room_in pinned h c.args.number in
-    let step = IsStepIn-found c.args.heaps.now c.loop-object.invariant.sound c.args.number c.loop-object.at c.in-Some.object c.in-Some.ensures in
+    let step = IsStepIn-found c.args.heaps.now c.loop-object.invariant.sound c.args.number c.loop-object.at c.in-Some.object c.in-Some.ensures.next in
     let opened : cond (pinned o.at) (room_from pinned (end_of o) 0 end (max greatest (o.at - from - held)) rest) (room_from pinned from (held + o.size) end greatest rest) ≡ room =
     ap (room_from pinned from held end greatest) (sym step.left) ∙ c.loop-object.invariant.room in
     let walked : (c.if-has.from + c.if-has.held ≤ end_of o) × (room_from pinned c.if-has.from c.if-has.held end c.if-has.greatest rest ≡ room) =
@@ -90,6 +91,7 @@ loop-object-preserved c =
     ] in
     record {
       sound = c.loop-object.invariant.sound;
+      reader = c.in-Some.ensures.same ∙ c.loop-object.invariant.reader;
       end = c.loop-object.invariant.end;
       size = c.loop-object.invariant.size;
       start = omega (arith, c.loop-object.invariant.start, step.above);
@@ -101,5 +103,5 @@ loop-object-preserved c =
 -- the end of the sub-heap
 pub returns : goal.returns
 returns c =
-    let none = rest_none c.loop-object.at (objects_in c.args.heaps.now c.args.number) (sym c.in_default.ensures) in
+    let none = rest_none c.loop-object.at (objects_in c.args.heaps.now c.args.number) (sym c.in_default.ensures.next) in
     c.max.ensures ∙ (rw none at c.loop-object.invariant.room)

@@ -10,6 +10,7 @@ use Rattle.move_plan.proofs.rooms.room_within.Given as goal
 abbrev pub invariant-loop-object : goal.invariant-loop-object
 invariant-loop-object l = record {
   sound : IsSound l.heaps;
+  reader : l.reader ≡ l.heaps.objects;
   end : l.end ≡ l.number * l.heaps.size + l.heaps.size;
   size : l.size ≡ l.heaps.size;
   start : l.number * l.heaps.size ≤ l.at;

@@ -4,7 +4,7 @@ use Rattle.std.proofs.lemmas.List.{append_assoc, append-nil, length-append}
 use Rattle.sub_heaps.specs.ByPlace.{end_of}
 use Rattle.move_plan.specs.Holding.{MoveList, is_pinned}
 use Rattle.move_plan.specs.Sliding.{IsSlide}
-use Rattle.move_plan.proofs.Rest.{IsStep-found, rest_all, rest_none, rest_from}
+use Rattle.move_plan.proofs.Rest.{IsStep-read, rest_all, rest_none-read, rest_from}
 use Rattle.move_plan.proofs.Slid.{length-move_to-le, move_to, slid_place-le, slide_moves}
 use Rattle.move_plan.proofs.Unique.{longest_after_slide}
 use Rattle.move_plan.proofs.Slides.{IsSlide-slide_moves}
@@ -16,6 +16,7 @@ loop-object-init c =
     let all = rest_all c.args.heaps.now.count c.args.heaps.now.size 0 0 c.args.heaps.now.objects (omega arith) c.size-size.ensures.sound.stand in
     record {
       sound = c.size-size.ensures.sound;
+      reader = c.reader-reader.ensures.objects;
       size = c.size-size.ensures.bytes;
       behind = omega arith;
       within = omega arith;
@@ -26,24 +27,24 @@ loop-object-init c =
 
 pub push-requires : goal.push-requires
 push-requires c =
-    let step = IsStep-found c.args.heaps.now c.loop-object.invariant.sound c.loop-object.from c.in-Some.object c.in-Some.ensures.next in
+    let step = IsStep-read c.args.heaps.now c.loop-object.invariant.sound c.loop-object.from c.in-Some.object c.loop-object.reader c.loop-object.invariant.reader c.in-Some.ensures.next in
     omega (arith, c.loop-object.invariant.left, ap length step.left)
 
 pub loop-object-smaller : goal.loop-object-smaller
 loop-object-smaller c =
-    let step = IsStep-found c.args.heaps.now c.loop-object.invariant.sound c.loop-object.from c.in-Some.object c.in-Some.ensures.next in
+    let step = IsStep-read c.args.heaps.now c.loop-object.invariant.sound c.loop-object.from c.in-Some.object c.loop-object.reader c.loop-object.invariant.reader c.in-Some.ensures.next in
     omega (arith, ap length step.left)
 
 pub overflow_add-below : goal.overflow_add-below
 overflow_add-below c =
-    let step = IsStep-found c.args.heaps.now c.loop-object.invariant.sound c.loop-object.from c.in-Some.object c.in-Some.ensures.next in
+    let step = IsStep-read c.args.heaps.now c.loop-object.invariant.sound c.loop-object.from c.in-Some.object c.loop-object.reader c.loop-object.invariant.reader c.in-Some.ensures.next in
     let some : 0 < c.size-size.result = omega (arith, c.loop-object.invariant.size, c.loop-object.invariant.sound.shape.size_least) in
     let lower = slid_place-le (is_pinned c.args.pins.now) c.args.heaps.now.count c.size-size.result some c.loop-object.below c.in-Some.object (omega (arith, step.above, c.loop-object.invariant.behind)) in
     omega (arith, lower, c.slid_place-to.ensures, step.within, c.loop-object.invariant.sound.shape.whole_bounded)
 
 pub overflow_add-from : goal.overflow_add-from
 overflow_add-from c =
-    let step = IsStep-found c.args.heaps.now c.loop-object.invariant.sound c.loop-object.from c.in-Some.object c.in-Some.ensures.next in
+    let step = IsStep-read c.args.heaps.now c.loop-object.invariant.sound c.loop-object.from c.in-Some.object c.loop-object.reader c.loop-object.invariant.reader c.in-Some.ensures.next in
     omega (arith, step.within, c.loop-object.invariant.sound.shape.whole_bounded)
 
 pub loop-object-preserved : goal.loop-object-preserved
@@ -53,7 +54,7 @@ loop-object-preserved c =
     let old = c.loop-object.into in
     let pinned = is_pinned c.args.pins.now in
     let objects = c.args.heaps.now.objects in
-    let step = IsStep-found c.args.heaps.now c.loop-object.invariant.sound c.loop-object.from o c.in-Some.ensures.next in
+    let step = IsStep-read c.args.heaps.now c.loop-object.invariant.sound c.loop-object.from o c.loop-object.reader c.loop-object.invariant.reader c.in-Some.ensures.next in
     let some : 0 < c.size-size.result = omega (arith, c.loop-object.invariant.size, c.loop-object.invariant.sound.shape.size_least) in
     let lower = slid_place-le pinned c.args.heaps.now.count c.size-size.result some c.loop-object.below o (omega (arith, step.above, c.loop-object.invariant.behind)) in
     let pushed : c.if-to-object.into ≡ record old { moves = old.moves ++ move_to o to } =
@@ -66,6 +67,7 @@ loop-object-preserved c =
     ap (λ t. move_to o t ++ slide_moves pinned c.size-size.result (t + o.size) rest) c.slid_place-to.ensures ∙ ap (slide_moves pinned c.size-size.result c.loop-object.below) (sym step.left) in
     record {
       sound = c.loop-object.invariant.sound;
+      reader = c.in-Some.ensures.same ∙ c.loop-object.invariant.reader;
       size = c.loop-object.invariant.size;
       behind = omega (arith, lower, c.slid_place-to.ensures);
       within = step.within;
@@ -82,7 +84,7 @@ loop-object-preserved c =
 -- the walk has come to its end
 moves_of_all : (c : goal.In_default) → c.loop-object.into.moves ≡ slide_moves (is_pinned c.args.pins.now) c.args.heaps.now.size 0 c.args.heaps.now.objects
 moves_of_all c =
-    let none = rest_none c.loop-object.from c.args.heaps.now.objects (sym c.in_default.ensures.next) in
+    let none = rest_none-read c.loop-object.from c.loop-object.reader c.args.heaps.now.objects c.loop-object.invariant.reader c.in_default.ensures.next in
     let all = rw (none, append-nil) at c.loop-object.invariant.moves in
     all ∙ ap (λ n. slide_moves (is_pinned c.args.pins.now) n 0 c.args.heaps.now.objects) c.loop-object.invariant.size
 

@@ -9,6 +9,7 @@ use Rattle.move_plan.proofs.sliding.slide.Given as goal
 abbrev pub invariant-loop-object : goal.invariant-loop-object
 invariant-loop-object l = record {
   sound : IsSound l.heaps;
+  reader : l.reader ≡ l.heaps.objects;
   size : l.size ≡ l.heaps.size;
   behind : l.below ≤ l.from;
   within : l.from ≤ l.heaps.count * l.heaps.size;
