@@ -49,6 +49,8 @@ pub fn compile(alloc: Global, text: &[u8]) -> Result<Built, CompileFault>
     lower_forms::laws::lowered_code_is_whole();
     lower_turns::laws::code_keeps_every_turn();
     let reading = read(alloc, text)?;
+    // What follows needs the tree alone.
+    drop(reading.tokens);
     match compiled(alloc, &reading.typed) {
         Ok(Compiled { checked, code }) => {
             code.keeps_lawful();
