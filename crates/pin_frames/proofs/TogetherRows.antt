@@ -20,7 +20,7 @@ use Rattle.pin_flow.proofs.Bases.{slot_known}
 use Rattle.mark_sets.specs.Words.{has}
 use Rattle.pin_frames.specs.declared.together.Walked.{Walked}
 use Rattle.pin_frames.specs.inner.Place.{rest_lives, listed, none_held, none_later}
-use Rattle.pin_frames.specs.inner.Together.{Tells, lives_in, slots_for, used_listed, used_listed_in, node_listing, node_keeps, Kept, KeptIn, AreKept, AreKeptIn}
+use Rattle.pin_frames.specs.inner.Together.{Tells, lives_in, slots_for, used_listed, used_listed_in, node_listing, node_keeps, Kept, KeptIn, AreKept, AreKeptIn, AreKeptLoop}
 use Rattle.pin_frames.proofs.LiveRows.{live_start, live_act_at}
 use Rattle.pin_frames.proofs.Kept.{used_same, in_same, listed_used}
 
@@ -136,24 +136,14 @@ module _ (bs on head top last : List ℕ) (body latch : Nodes) (tops : top ≡ h
   in_body : (b i : ℕ) → slot_if bs b ≡ Some i → lives_in lasts on last i ≡ body_lives i b body latch (has on i)
   in_body b i e = (λ j. lives (has (same j) i) (has on i) (has last i)) ∙ (λ j. lives (at_end b i e j) (has on i) (at_end b i e j))
 
-  pub loop_more : (out end : List ℕ) (place : ℕ) (body' latch' : Nodes) → body' ≡ used_listed L bs body (λ b. lives_in lasts on last (L b)) → latch' ≡ used_listed L bs latch (λ b. lives_in top on head (L b))
-      → loop place body' latch' ≡ used_listed_in L bs (loop place body latch) (λ b. lives_in on out end (L b))
-  loop_more out end place body' latch' e f =
-      let y = e ∙ used_same L bs body (λ b. lives_in lasts on last (L b)) (λ b. body_lives (L b) b body latch (has on (L b))) (λ b j. in_body b (L b) (slot_known bs b j)) in
-      let z = f ∙ used_same L bs latch (λ b. lives_in top on head (L b)) (λ b. latch_lives (L b) b body latch (has on (L b))) (λ b j. in_latch b (L b) (slot_known bs b j)) in
-      λ i. loop place (y i) (z i)
+  pub body_done : (body' : Nodes) → body' ≡ used_listed L bs body (λ b. lives_in lasts on last (L b)) → body' ≡ used_listed L bs body (λ b. body_lives (L b) b body latch (has on (L b)))
+  body_done body' e = e ∙ used_same L bs body (λ b. lives_in lasts on last (L b)) (λ b. body_lives (L b) b body latch (has on (L b))) (λ b j. in_body b (L b) (slot_known bs b j))
 
-  pub loop_done : (out end : List ℕ) (n : CodeNode) (v w first second : Vec CodeNode) → n.kind ≡ views.Loop v w → body ≡ nodes_view v.items → latch ≡ nodes_view w.items
-      → nodes_view first.items ≡ used_listed L bs body (λ b. lives_in lasts on last (L b)) → nodes_view second.items ≡ used_listed L bs latch (λ b. lives_in top on head (L b))
-      → kind_view n.place (views.Loop first second) ≡ used_listed_in L bs (node_view n) (λ b. lives_in on out end (L b))
-  loop_done out end n v w first second is eb el f g =
-      loop_view n.place first second
-      ∙ (loop_more out end n.place (nodes_view first.items) (nodes_view second.items) f g
-      ∙ ((λ i. used_listed_in L bs (loop n.place (eb i) (el i)) (λ b. lives_in on out end (L b))) ∙ ap (λ y. used_listed_in L bs y (λ b. lives_in on out end (L b))) (sym (loop_is n v w is))))
+  pub latch_done : (latch' : Nodes) → latch' ≡ used_listed L bs latch (λ b. lives_in top on head (L b)) → latch' ≡ used_listed L bs latch (λ b. latch_lives (L b) b body latch (has on (L b)))
+  latch_done latch' e = e ∙ used_same L bs latch (λ b. lives_in top on head (L b)) (λ b. latch_lives (L b) b body latch (has on (L b))) (λ b j. in_latch b (L b) (slot_known bs b j))
 
-  pub loop_kept : (out end : List ℕ) (place : ℕ) → AreKept bs body lasts on last → AreKept bs latch top on head → AreKeptIn bs (loop place body latch) on out end
-  unfolding Kept
-  loop_kept out end place k l b i e = (subst (λ (m : Live). Kept i b body m) (in_body b i e) (k b i e), subst (λ (m : Live). Kept i b latch m) (in_latch b i e) (l b i e))
+  pub both_kept : AreKept bs body lasts on last → AreKept bs latch top on head → AreKeptLoop bs body latch on
+  both_kept k l b i e = (subst (λ (m : Live). Kept i b body m) (in_body b i e) (k b i e), subst (λ (m : Live). Kept i b latch m) (in_latch b i e) (l b i e))
 
 -- ---- nodes that hold others
 
@@ -166,6 +156,16 @@ pub if_kept : (bs on on' out end : List ℕ) (n : CodeNode) (temp : ℕ) (v w : 
 unfolding Kept
 if_kept bs on on' out end n temp v w is same k l b i e =
     subst (λ y. KeptIn i b y (lives_in on out end i)) (sym (if_is n temp v w is)) (subst (λ z. Kept i b (nodes_view v.items) (lives_in z out end i)) same (k b i e), l b i e)
+
+pub loop_done : (s : ℕ → ℕ) (bs : List ℕ) (ls : ℕ → Live) (n : CodeNode) (v w first second : Vec CodeNode) → n.kind ≡ views.Loop v w
+    → nodes_view first.items ≡ used_listed s bs (nodes_view v.items) (λ b. body_lives (s b) b (nodes_view v.items) (nodes_view w.items) (ls b).on)
+    → nodes_view second.items ≡ used_listed s bs (nodes_view w.items) (λ b. latch_lives (s b) b (nodes_view v.items) (nodes_view w.items) (ls b).on)
+    → kind_view n.place (views.Loop first second) ≡ used_listed_in s bs (node_view n) ls
+loop_done s bs ls n v w first second is f g = loop_view n.place first second ∙ ((λ i. loop n.place (f i) (g i)) ∙ ap (λ y. used_listed_in s bs y ls) (sym (loop_is n v w is)))
+
+pub loop_kept : (bs on out end : List ℕ) (n : CodeNode) (v w : Vec CodeNode) → n.kind ≡ views.Loop v w → AreKeptLoop bs (nodes_view v.items) (nodes_view w.items) on → AreKeptIn bs (node_view n) on out end
+unfolding Kept
+loop_kept bs on out end n v w is k b i e = subst (λ y. KeptIn i b y (lives_in on out end i)) (sym (loop_is n v w is)) (k b i e)
 
 -- ---- acts
 

@@ -2,13 +2,13 @@
 
 ghost use Rattle.std.specs.Prelude.{◌≡◌, ◌==◌, ◌<◌, ◌≤◌, ◌^◌, ◌||◌, ◌&&◌, ℕ, Some, true, false, length, not, IfOk, OnOk};
 ghost use Rattle.struct_ir.specs.Views.{step_view, node_view, nodes_view};
-ghost use Rattle.pin_flow.specs.Live.{uses, live, live_node};
+ghost use Rattle.pin_flow.specs.Live.{uses, live, live_node, head_live, body_lives, latch_lives};
 ghost use Rattle.pin_flow.specs.Looks.{is_to};
 ghost use Rattle.pin_flow.specs.Slots.{slot_if, slot_in};
 ghost use Rattle.pin_flow.specs.Views.{act_is, looks_slot};
 ghost use Rattle.mark_sets.specs.Words.{has};
 ghost use Rattle.pin_frames.specs.inner.Place.{step_listing};
-ghost use Rattle.pin_frames.specs.inner.Together.{AreHomes, Tells, lives_in, numbers, slots_for, used_listed, used_listed_in, node_listing, node_keeps, AreKept, AreKeptIn};
+ghost use Rattle.pin_frames.specs.inner.Together.{AreHomes, Tells, lives_in, numbers, slots_for, used_listed, used_listed_in, node_listing, node_keeps, AreKept, AreKeptIn, AreKeptLoop};
 
 use crate::used::{Homes, head_used, is_home, used_act};
 use ak_words::NoMemory;
@@ -139,6 +139,27 @@ fn both(a: bool, b: bool) -> bool
     a && b
 }
 
+// What either has found; all is kept if it is in both.
+fn both_walked(one: Walked, other: Walked) -> Walked
+    ensures used { (i : ℕ) → has result.on.items i ≡ (has one.on.items i || has other.on.items i) }
+    ensures kept { result.kept ≡ (one.kept && other.kept) }
+{
+    Walked {
+        on: united(one.on, other.on),
+        kept: both(one.kept, other.kept),
+    }
+}
+
+// Where control leaves a row: what is used is what is used where it goes, and nothing is left to keep.
+fn led_to(alloc: Global, on: &[u64]) -> Result<Walked, NoMemory>
+    ensures { IfOk result (λ w. w.on.items ≡ on.now) }
+{
+    Ok(Walked {
+        on: on.to_vec(alloc)?,
+        kept: true,
+    })
+}
+
 /// Makes the lists of the row: each has the slots that are used at its act or later.
 ///
 /// # Errors
@@ -170,6 +191,7 @@ pub(crate) fn list_row(
     Ok(Walked { on: set, kept })
 }
 
+// The same of a node.
 #[cycle(lists)]
 fn list_node(
     alloc: Global,
@@ -189,41 +211,49 @@ fn list_node(
             let start = on.to_vec(alloc)?;
             let first = list_row(alloc, homes, one, start, out, end)?;
             let second = list_row(alloc, homes, other, on, out, end)?;
-            Ok(Walked {
-                on: united(first.on, second.on),
-                kept: both(first.kept, second.kept),
-            })
+            Ok(both_walked(first, second))
         }
-        NodeKind::Loop(body, step) => {
-            let head = head_used(alloc, homes, body, step, &on)?;
-            let top = head.to_vec(alloc)?;
-            let latch = list_row(alloc, homes, step, top, &on, &head)?;
-            let last = latch.on.to_vec(alloc)?;
-            let first = list_row(alloc, homes, body, last, &on, &latch.on)?;
-            Ok(Walked {
-                on: head,
-                kept: both(first.kept, latch.kept),
-            })
-        }
+        NodeKind::Loop(body, step) => list_loop(alloc, homes, body, step, &on),
         NodeKind::Set(..) | NodeKind::Call(_) | NodeKind::Step(_) | NodeKind::Look(..) => {
             list_act(alloc, homes, n, on)
         }
         NodeKind::Safepoint(_) | NodeKind::Begin(_) | NodeKind::End(_) => {
             list_act(alloc, homes, n, on)
         }
-        NodeKind::Break => Ok(Walked {
-            on: out.to_vec(alloc)?,
-            kept: true,
-        }),
-        NodeKind::Next => Ok(Walked {
-            on: end.to_vec(alloc)?,
-            kept: true,
-        }),
+        NodeKind::Break => led_to(alloc, out),
+        NodeKind::Next => led_to(alloc, end),
         NodeKind::Ret(_) => Ok(Walked {
             on: Vec::new(alloc),
             kept: true,
         }),
     }
+}
+
+// Makes the lists of a loop's body and step, from what is used behind the loop. Tells what is used
+// at the start of each round.
+#[cycle(lists)]
+fn list_loop(
+    alloc: Global,
+    homes: &Homes,
+    body: &mut [Node],
+    step: &mut [Node],
+    on: &[u64],
+) -> Result<Walked, NoMemory>
+    requires { AreHomes homes.now }
+    ensures used { IfOk result (λ w. Tells homes.now.bases.items w.on.items (λ i b. head_live i b (nodes_view body.old) (nodes_view step.old) (has on.now i))) }
+    ensures kept { IfOk result (λ w. w.kept ≡ true → AreKeptLoop homes.now.bases.items (nodes_view body.old) (nodes_view step.old) on.now) }
+    ensures body { OnOk result (nodes_view body.new ≡ used_listed (slot_in homes.now.bases.items) homes.now.bases.items (nodes_view body.old) (λ b. body_lives (slot_in homes.now.bases.items b) b (nodes_view body.old) (nodes_view step.old) (has on.now (slot_in homes.now.bases.items b)))) }
+    ensures step { OnOk result (nodes_view step.new ≡ used_listed (slot_in homes.now.bases.items) homes.now.bases.items (nodes_view step.old) (λ b. latch_lives (slot_in homes.now.bases.items b) b (nodes_view body.old) (nodes_view step.old) (has on.now (slot_in homes.now.bases.items b)))) }
+{
+    let head = head_used(alloc, homes, body, step, on)?;
+    let top = head.to_vec(alloc)?;
+    let latch = list_row(alloc, homes, step, top, on, &head)?;
+    let last = latch.on.to_vec(alloc)?;
+    let first = list_row(alloc, homes, body, last, on, &latch.on)?;
+    Ok(Walked {
+        on: head,
+        kept: both(first.kept, latch.kept),
+    })
 }
 
 /// Whether the set has no numbers.

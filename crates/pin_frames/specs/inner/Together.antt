@@ -105,3 +105,7 @@ AreKept bs ns on out end = (b i : ℕ) → slot_if bs b ≡ Some i → Kept i b 
 -- the same of a node
 abbrev pub AreKeptIn : List ℕ → Node → (on out end : List ℕ) → Type 0
 AreKeptIn bs n on out end = (b i : ℕ) → slot_if bs b ≡ Some i → KeptIn i b n (lives_in on out end i)
+
+-- within a loop, by what is used behind it
+abbrev pub AreKeptLoop : List ℕ → (body latch : Nodes) → (on : List ℕ) → Type 0
+AreKeptLoop bs body latch on = (b i : ℕ) → slot_if bs b ≡ Some i → Kept i b body (body_lives i b body latch (has on i)) × Kept i b latch (latch_lives i b body latch (has on i))

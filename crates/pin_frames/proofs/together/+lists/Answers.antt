@@ -2,20 +2,21 @@ use Rattle.std.proofs.Common.{◌≡◌, ◌<◌, ◌+◌, ◌-◌, ℕ, [], ◌
 use Rattle.std.specs.Global.{Vec}
 use Rattle.std.specs.Vec.{with_items}
 use Rattle.std.proofs.lemmas.Bool.{and_parts}
+use Rattle.std.proofs.lemmas.Result.{IfOk-weaker}
 use Rattle.struct_ir.specs.Structured.{row_size, node_size}
 use Rattle.struct_ir.specs.declared.code.Node.{Node as CodeNode}
 use Rattle.struct_ir.specs.declared.code.NodeKind.TheViews as views
-use Rattle.struct_ir.proofs.Views.{loop_is}
 use Rattle.struct_ir.specs.Views.{kind_view, node_view, nodes_view}
-use Rattle.pin_flow.specs.Live.{Live, live, live_node, head_live}
+use Rattle.pin_flow.specs.Live.{Live, live, live_node, head_live, body_lives, latch_lives}
 use Rattle.pin_flow.specs.Slots.{slot_in}
 use Rattle.pin_flow.proofs.FlowRows.{is_plain, plain_of}
 use Rattle.pin_flow.proofs.InPlace.{temp_of_if, row_within}
 use Rattle.mark_sets.specs.Words.{has}
-use Rattle.pin_frames.specs.inner.Together.{Tells, lives_in, used_listed, used_listed_in, AreKept, AreKeptIn}
+use Rattle.mark_sets.proofs.Bits.{on_both}
+use Rattle.pin_frames.specs.inner.Together.{Tells, lives_in, used_listed, used_listed_in, AreKept, AreKeptIn, AreKeptLoop}
 use Rattle.pin_frames.proofs.Backwards.{if_size, loop_size}
 use Rattle.pin_frames.proofs.LiveRows.{live_more, live_if, live_head}
-use Rattle.pin_frames.proofs.TogetherRows.{has_nothing, same_item, put_item, rest_is, size_at, start_rows, start_made, start_used, start_kept, node_more, kept_more, if_done, if_kept, loop_done, loop_kept, act_told, act_keeps, way_kept, kept_at}
+use Rattle.pin_frames.proofs.TogetherRows.{has_nothing, same_item, put_item, rest_is, size_at, start_rows, start_made, start_used, start_kept, node_more, kept_more, if_done, if_kept, body_done, latch_done, both_kept, loop_done, loop_kept, act_told, act_keeps, way_kept, kept_at}
 use Rattle.pin_frames.proofs.together.+lists.Goals as goal
 
 -- ---- rows
@@ -104,10 +105,10 @@ list_node-returns-in_ok-second-in-If-clause-used t c =
     let d0 = c.deref_mut.ensures.value ∙ ap (λ (u : Vec CodeNode). u.items) c.in-If.one-is in
     let d1 = c.deref_mut-in-If.ensures.value ∙ ap (λ (u : Vec CodeNode). u.items) c.in-If.other-is in
     λ b i e.
-    live_if i b c.args.n.now c.in-If.field-0 c.in-If.one c.in-If.other (lives_in c.args.on.items out end i) (has c.in_ok-first-in-If.first.on.items i) (has c.in_ok-second-in-If.second.on.items i) (has c.united.result.items i)
+    live_if i b c.args.n.now c.in-If.field-0 c.in-If.one c.in-If.other (lives_in c.args.on.items out end i) (has c.in_ok-first-in-If.first.on.items i) (has c.in_ok-second-in-If.second.on.items i) (has c.both_walked.result.on.items i)
     c.in-If.is
     (c.in_ok-first-in-If.ensures.used b i e ∙ (λ j. live i b (nodes_view (d0 j)) (lives_in (again j) out end i)))
-    (c.in_ok-second-in-If.ensures.used b i e ∙ ap (λ l. live i b (nodes_view l) (lives_in c.args.on.items out end i)) d1) (c.united.ensures i)
+    (c.in_ok-second-in-If.ensures.used b i e ∙ ap (λ l. live i b (nodes_view l) (lives_in c.args.on.items out end i)) d1) (c.both_walked.ensures.used i)
 
 pub list_node-returns-in_ok-second-in-If-clause-kept : goal.list_node-returns-in_ok-second-in-If-clause-kept
 list_node-returns-in_ok-second-in-If-clause-kept t c = λ g.
@@ -117,7 +118,7 @@ list_node-returns-in_ok-second-in-If-clause-kept t c = λ g.
     let again : c.in_ok-start-in-If.start.items ≡ c.args.on.items = search rules in
     let d0 = c.deref_mut.ensures.value ∙ ap (λ (u : Vec CodeNode). u.items) c.in-If.one-is in
     let d1 = c.deref_mut-in-If.ensures.value ∙ ap (λ (u : Vec CodeNode). u.items) c.in-If.other-is in
-    let p = and_parts c.in_ok-first-in-If.first.kept c.in_ok-second-in-If.second.kept (sym c.both.ensures ∙ g) in
+    let p = and_parts c.in_ok-first-in-If.first.kept c.in_ok-second-in-If.second.kept (sym c.both_walked.ensures.kept ∙ g) in
     if_kept bs c.args.on.items c.in_ok-start-in-If.start.items out end c.args.n.now c.in-If.field-0 c.in-If.one c.in-If.other c.in-If.is again
     (subst (λ l. AreKept bs (nodes_view l) c.in_ok-start-in-If.start.items out end) d0 (c.in_ok-first-in-If.ensures.kept p.0))
     (subst (λ l. AreKept bs (nodes_view l) c.args.on.items out end) d1 (c.in_ok-second-in-If.ensures.kept p.1))
@@ -146,110 +147,147 @@ list_node-returns-in_ok-second-in-If-clause-node t c =
 
 -- ---- loops
 
-pub list_node-list_row-requires-in-Loop : goal.list_node-list_row-requires-in-Loop
-list_node-list_row-requires-in-Loop t c =
-    let e = loop_size c.args.n.now c.in-Loop.body c.in-Loop.step c.in-Loop.is in
-    let d = c.deref_mut-in-Loop.ensures.value ∙ ap (λ (u : Vec CodeNode). u.items) c.in-Loop.step-is in
-    rw d (omega (arith, e), c.requires)
+pub list_loop-list_row-requires : goal.list_loop-list_row-requires
+list_loop-list_row-requires t c = (omega arith, c.requires)
 
-pub list_node-list_row-requires-in-Loop-2 : goal.list_node-list_row-requires-in-Loop-2
-list_node-list_row-requires-in-Loop-2 t c =
-    let e = loop_size c.args.n.now c.in-Loop.body c.in-Loop.step c.in-Loop.is in
-    let d = c.deref_mut-in-Loop-2.ensures.value ∙ ap (λ (u : Vec CodeNode). u.items) c.in-Loop.body-is in
-    rw d (omega (arith, e), c.requires)
+pub list_loop-list_row-requires-2 : goal.list_loop-list_row-requires-2
+list_loop-list_row-requires-2 t c = (omega arith, c.requires)
 
-pub list_node-returns-in_ok-first-in-Loop-clause-used : goal.list_node-returns-in_ok-first-in-Loop-clause-used
-list_node-returns-in_ok-first-in-Loop-clause-used t c =
-    let a = c.deref-in-Loop.ensures.value ∙ ap (λ (u : Vec CodeNode). u.items) c.in-Loop.body-is in
-    let b' = c.deref-in-Loop-2.ensures.value ∙ ap (λ (u : Vec CodeNode). u.items) c.in-Loop.step-is in
-    let o = c.deref-in-Loop-3.ensures.value in
-    λ b i e. live_head i b c.args.n.now c.in-Loop.body c.in-Loop.step (lives_in c.args.on.items c.args.out.now c.args.end.now i) (has c.in_ok-head-in-Loop.head.items i) c.in-Loop.is
-    (c.in_ok-head-in-Loop.ensures b i e ∙ (λ j. head_live i b (nodes_view (a j)) (nodes_view (b' j)) (has (o j) i)))
-
-pub list_node-returns-in_ok-first-in-Loop-clause-kept : goal.list_node-returns-in_ok-first-in-Loop-clause-kept
-list_node-returns-in_ok-first-in-Loop-clause-kept t c = λ g.
+pub list_loop-returns-clause-kept : goal.list_loop-returns-clause-kept
+list_loop-returns-clause-kept t c = λ g.
     let bs = c.args.homes.now.bases.items in
-    let on = c.args.on.items in
-    let head = c.in_ok-head-in-Loop.head.items in
-    let top = c.in_ok-top-in-Loop.top.items in
-    let latch = c.in_ok-latch-in-Loop.latch in
-    let last = c.in_ok-last-in-Loop.last.items in
-    let v = c.in-Loop.body in
-    let w = c.in-Loop.step in
-    let vb = ap (λ (u : Vec CodeNode). u.items) c.in-Loop.body-is in
-    let wb = ap (λ (u : Vec CodeNode). u.items) c.in-Loop.step-is in
-    let a : c.deref-in-Loop.result.now ≡ v.items = c.deref-in-Loop.ensures.value ∙ vb in
-    let d : c.deref-in-Loop-2.result.now ≡ w.items = c.deref-in-Loop-2.ensures.value ∙ wb in
-    let o : c.deref-in-Loop-3.result.now ≡ on = c.deref-in-Loop-3.ensures.value in
-    let mw : c.deref_mut-in-Loop.result.now ≡ w.items = c.deref_mut-in-Loop.ensures.value ∙ wb in
-    let mv : c.deref_mut-in-Loop-2.result.now ≡ v.items = c.deref_mut-in-Loop-2.ensures.value ∙ vb in
-    let o5 : c.deref-in-Loop-5.result.now ≡ on = c.deref-in-Loop-5.ensures.value in
-    let h6 : c.deref-in-Loop-6.result.now ≡ head = c.deref-in-Loop-6.ensures.value in
-    let o8 : c.deref-in-Loop-8.result.now ≡ on = c.deref-in-Loop-8.ensures.value in
-    let l9 : c.deref-in-Loop-9.result.now ≡ latch.on.items = c.deref-in-Loop-9.ensures.value in
+    let on = c.args.on.now in
+    let body = nodes_view c.args.body.now in
+    let step = nodes_view c.args.step.now in
+    let head = c.in_ok-head.head.items in
+    let top = c.in_ok-top.top.items in
+    let latch = c.in_ok-latch.latch in
+    let last = c.in_ok-last.last.items in
+    let h : c.deref-2.result.now ≡ head = c.deref-2.ensures.value in
+    let l : c.deref-4.result.now ≡ latch.on.items = c.deref-4.ensures.value in
     let tops : top ≡ head = search rules in
     let same : last ≡ latch.on.items = search rules in
-    let heads : Tells bs head (λ i b. head_live i b (nodes_view v.items) (nodes_view w.items) (has on i)) = λ b i e. c.in_ok-head-in-Loop.ensures b i e ∙ (λ j. head_live i b (nodes_view (a j)) (nodes_view (d j)) (has (o j) i)) in
-    let ends : Tells bs latch.on.items (λ i b. live i b (nodes_view w.items) (lives_in top on head i)) = λ b i e. c.in_ok-latch-in-Loop.ensures.used b i e ∙ (λ j. live i b (nodes_view (mw j)) (lives_in top (o5 j) (h6 j) i)) in
-    let p = and_parts c.in_ok-first-in-Loop.first.kept latch.kept (sym c.both-in-Loop.ensures ∙ g) in
-    subst (λ y. AreKeptIn bs y on c.args.out.now c.args.end.now) (sym (loop_is c.args.n.now v w c.in-Loop.is))
-    (loop_kept bs on head top latch.on.items (nodes_view v.items) (nodes_view w.items) tops last same heads ends c.args.out.now c.args.end.now c.args.n.now.place
-    (kept_at bs last (λ j. nodes_view (mv j)) o8 l9 (c.in_ok-first-in-Loop.ensures.kept p.0))
-    (kept_at bs top (λ j. nodes_view (mw j)) o5 h6 (c.in_ok-latch-in-Loop.ensures.kept p.1)))
+    let ends : Tells bs latch.on.items (λ i b. live i b step (lives_in top on head i)) = λ b i e. c.in_ok-latch.ensures.used b i e ∙ (λ j. live i b step (lives_in top on (h j) i)) in
+    let p = and_parts c.in_ok-first.first.kept latch.kept (sym c.both.ensures ∙ g) in
+    both_kept bs on head top latch.on.items body step tops last same c.in_ok-head.ensures ends
+    (kept_at bs last refl refl l (c.in_ok-first.ensures.kept p.0))
+    (kept_at bs top refl refl h (c.in_ok-latch.ensures.kept p.1))
 
-pub list_node-returns-in_ok-first-in-Loop-clause-node : goal.list_node-returns-in_ok-first-in-Loop-clause-node
-list_node-returns-in_ok-first-in-Loop-clause-node t c =
+pub list_loop-returns-clause-body : goal.list_loop-returns-clause-body
+list_loop-returns-clause-body t c =
     let bs = c.args.homes.now.bases.items in
-    let on = c.args.on.items in
-    let head = c.in_ok-head-in-Loop.head.items in
-    let top = c.in_ok-top-in-Loop.top.items in
-    let latch = c.in_ok-latch-in-Loop.latch in
-    let last = c.in_ok-last-in-Loop.last.items in
-    let v = c.in-Loop.body in
-    let w = c.in-Loop.step in
-    let vb = ap (λ (u : Vec CodeNode). u.items) c.in-Loop.body-is in
-    let wb = ap (λ (u : Vec CodeNode). u.items) c.in-Loop.step-is in
-    let a : c.deref-in-Loop.result.now ≡ v.items = c.deref-in-Loop.ensures.value ∙ vb in
-    let d : c.deref-in-Loop-2.result.now ≡ w.items = c.deref-in-Loop-2.ensures.value ∙ wb in
-    let o : c.deref-in-Loop-3.result.now ≡ on = c.deref-in-Loop-3.ensures.value in
-    let mw : c.deref_mut-in-Loop.result.now ≡ w.items = c.deref_mut-in-Loop.ensures.value ∙ wb in
-    let mv : c.deref_mut-in-Loop-2.result.now ≡ v.items = c.deref_mut-in-Loop-2.ensures.value ∙ vb in
-    let o5 : c.deref-in-Loop-5.result.now ≡ on = c.deref-in-Loop-5.ensures.value in
-    let h6 : c.deref-in-Loop-6.result.now ≡ head = c.deref-in-Loop-6.ensures.value in
-    let o8 : c.deref-in-Loop-8.result.now ≡ on = c.deref-in-Loop-8.ensures.value in
-    let l9 : c.deref-in-Loop-9.result.now ≡ latch.on.items = c.deref-in-Loop-9.ensures.value in
+    let on = c.args.on.now in
+    let body = nodes_view c.args.body.now in
+    let step = nodes_view c.args.step.now in
+    let head = c.in_ok-head.head.items in
+    let top = c.in_ok-top.top.items in
+    let latch = c.in_ok-latch.latch in
+    let last = c.in_ok-last.last.items in
+    let h : c.deref-2.result.now ≡ head = c.deref-2.ensures.value in
+    let l : c.deref-4.result.now ≡ latch.on.items = c.deref-4.ensures.value in
     let tops : top ≡ head = search rules in
     let same : last ≡ latch.on.items = search rules in
-    let heads : Tells bs head (λ i b. head_live i b (nodes_view v.items) (nodes_view w.items) (has on i)) = λ b i e. c.in_ok-head-in-Loop.ensures b i e ∙ (λ j. head_live i b (nodes_view (a j)) (nodes_view (d j)) (has (o j) i)) in
-    let ends : Tells bs latch.on.items (λ i b. live i b (nodes_view w.items) (lives_in top on head i)) = λ b i e. c.in_ok-latch-in-Loop.ensures.used b i e ∙ (λ j. live i b (nodes_view (mw j)) (lives_in top (o5 j) (h6 j) i)) in
-    let ys = c.list_row-in-Loop-2.new.rows in
-    let zs = c.list_row-in-Loop.new.rows in
-    (λ i. kind_view c.args.n.now.place (views.Loop (with_items (c.in-Loop.body-is i) ys) (with_items (c.in-Loop.step-is i) zs)))
-    ∙ loop_done bs on head top latch.on.items (nodes_view v.items) (nodes_view w.items) tops last same heads ends c.args.out.now c.args.end.now c.args.n.now v w (with_items v ys) (with_items w zs) c.in-Loop.is refl refl
-    (row_within (λ r. used_listed (slot_in bs) bs r (λ b. lives_in last on latch.on.items (slot_in bs b))) v c.deref_mut-in-Loop-2.result.now ys mv (omega (arith, c.list_row-in-Loop-2.auto.rows, ap length mv, v.ok.0))
-    (c.in_ok-first-in-Loop.ensures.row ∙ (λ j. used_listed (slot_in bs) bs (nodes_view c.deref_mut-in-Loop-2.result.now) (λ b. lives_in last (o8 j) (l9 j) (slot_in bs b)))))
-    (row_within (λ r. used_listed (slot_in bs) bs r (λ b. lives_in top on head (slot_in bs b))) w c.deref_mut-in-Loop.result.now zs mw (omega (arith, c.list_row-in-Loop.auto.rows, ap length mw, w.ok.0))
-    (c.in_ok-latch-in-Loop.ensures.row ∙ (λ j. used_listed (slot_in bs) bs (nodes_view c.deref_mut-in-Loop.result.now) (λ b. lives_in top (o5 j) (h6 j) (slot_in bs b)))))
+    let ends : Tells bs latch.on.items (λ i b. live i b step (lives_in top on head i)) = λ b i e. c.in_ok-latch.ensures.used b i e ∙ (λ j. live i b step (lives_in top on (h j) i)) in
+    body_done bs on head top latch.on.items body step tops last same c.in_ok-head.ensures ends _
+    (c.in_ok-first.ensures.row ∙ (λ j. used_listed (slot_in bs) bs body (λ b. lives_in last on (l j) (slot_in bs b))))
+
+pub list_loop-returns-clause-step : goal.list_loop-returns-clause-step
+list_loop-returns-clause-step t c =
+    let bs = c.args.homes.now.bases.items in
+    let on = c.args.on.now in
+    let body = nodes_view c.args.body.now in
+    let step = nodes_view c.args.step.now in
+    let head = c.in_ok-head.head.items in
+    let top = c.in_ok-top.top.items in
+    let latch = c.in_ok-latch.latch in
+    let last = c.in_ok-last.last.items in
+    let h : c.deref-2.result.now ≡ head = c.deref-2.ensures.value in
+    let tops : top ≡ head = search rules in
+    let same : last ≡ latch.on.items = search rules in
+    let ends : Tells bs latch.on.items (λ i b. live i b step (lives_in top on head i)) = λ b i e. c.in_ok-latch.ensures.used b i e ∙ (λ j. live i b step (lives_in top on (h j) i)) in
+    latch_done bs on head top latch.on.items body step tops last same c.in_ok-head.ensures ends _
+    (c.in_ok-latch.ensures.row ∙ (λ j. used_listed (slot_in bs) bs step (λ b. lives_in top on (h j) (slot_in bs b))))
+
+pub list_node-list_loop-requires : goal.list_node-list_loop-requires
+list_node-list_loop-requires t c =
+    let e = loop_size c.args.n.now c.in-Loop.body c.in-Loop.step c.in-Loop.is in
+    let d0 = c.deref_mut-in-Loop.ensures.value ∙ ap (λ (u : Vec CodeNode). u.items) c.in-Loop.body-is in
+    let d1 = c.deref_mut-in-Loop-2.ensures.value ∙ ap (λ (u : Vec CodeNode). u.items) c.in-Loop.step-is in
+    rw (d0, d1) (omega (arith, e), c.requires)
+
+pub list_node-returns-in-Loop-clause-used : goal.list_node-returns-in-Loop-clause-used
+list_node-returns-in-Loop-clause-used t c =
+    let bs = c.args.homes.now.bases.items in
+    let d0 = c.deref_mut-in-Loop.ensures.value ∙ ap (λ (u : Vec CodeNode). u.items) c.in-Loop.body-is in
+    let d1 = c.deref_mut-in-Loop-2.ensures.value ∙ ap (λ (u : Vec CodeNode). u.items) c.in-Loop.step-is in
+    let o = c.deref-in-Loop.ensures.value in
+    IfOk-weaker c.list_loop.result
+    (λ w. Tells bs w.on.items (λ i b. head_live i b (nodes_view c.deref_mut-in-Loop.result.now) (nodes_view c.deref_mut-in-Loop-2.result.now) (has c.deref-in-Loop.result.now i)))
+    (λ w. Tells bs w.on.items (λ i b. live_node i b (node_view c.args.n.now) (lives_in c.args.on.items c.args.out.now c.args.end.now i)))
+    (λ w f b i e. live_head i b c.args.n.now c.in-Loop.body c.in-Loop.step (lives_in c.args.on.items c.args.out.now c.args.end.now i) (has w.on.items i) c.in-Loop.is
+    (f b i e ∙ (λ j. head_live i b (nodes_view (d0 j)) (nodes_view (d1 j)) (has (o j) i)))) c.list_loop.ensures.used
+
+pub list_node-returns-in-Loop-clause-kept : goal.list_node-returns-in-Loop-clause-kept
+list_node-returns-in-Loop-clause-kept t c =
+    let bs = c.args.homes.now.bases.items in
+    let v = c.in-Loop.body in
+    let w = c.in-Loop.step in
+    let d0 : c.deref_mut-in-Loop.result.now ≡ v.items = c.deref_mut-in-Loop.ensures.value ∙ ap (λ (u : Vec CodeNode). u.items) c.in-Loop.body-is in
+    let d1 : c.deref_mut-in-Loop-2.result.now ≡ w.items = c.deref_mut-in-Loop-2.ensures.value ∙ ap (λ (u : Vec CodeNode). u.items) c.in-Loop.step-is in
+    let o : c.deref-in-Loop.result.now ≡ c.args.on.items = c.deref-in-Loop.ensures.value in
+    IfOk-weaker c.list_loop.result
+    (λ x. x.kept ≡ true → AreKeptLoop bs (nodes_view c.deref_mut-in-Loop.result.now) (nodes_view c.deref_mut-in-Loop-2.result.now) c.deref-in-Loop.result.now)
+    (λ x. x.kept ≡ true → AreKeptIn bs (node_view c.args.n.now) c.args.on.items c.args.out.now c.args.end.now)
+    (λ x f g. loop_kept bs c.args.on.items c.args.out.now c.args.end.now c.args.n.now v w c.in-Loop.is (subst (λ y. y) (λ j. AreKeptLoop bs (nodes_view (d0 j)) (nodes_view (d1 j)) (o j)) (f g))) c.list_loop.ensures.kept
+
+pub list_node-returns-in-Loop-clause-node : goal.list_node-returns-in-Loop-clause-node
+list_node-returns-in-Loop-clause-node t c =
+    let bs = c.args.homes.now.bases.items in
+    let s = slot_in bs in
+    let on = c.args.on.items in
+    let ls : ℕ → Live = λ b. lives_in on c.args.out.now c.args.end.now (slot_in bs b) in
+    let v = c.in-Loop.body in
+    let w = c.in-Loop.step in
+    let xs = c.deref_mut-in-Loop.result.now in
+    let ws = c.deref_mut-in-Loop-2.result.now in
+    let ys = c.list_loop.new.body in
+    let zs = c.list_loop.new.step in
+    let d0 : xs ≡ v.items = c.deref_mut-in-Loop.ensures.value ∙ ap (λ (u : Vec CodeNode). u.items) c.in-Loop.body-is in
+    let d1 : ws ≡ w.items = c.deref_mut-in-Loop-2.ensures.value ∙ ap (λ (u : Vec CodeNode). u.items) c.in-Loop.step-is in
+    let o : c.deref-in-Loop.result.now ≡ on = c.deref-in-Loop.ensures.value in
+    on_both c.list_loop.result c.list_loop.ensures.body c.list_loop.ensures.step
+    (λ f g. (λ i. kind_view c.args.n.now.place (views.Loop (with_items (c.in-Loop.body-is i) ys) (with_items (c.in-Loop.step-is i) zs)))
+    ∙ loop_done s bs ls c.args.n.now v w (with_items v ys) (with_items w zs) c.in-Loop.is
+    (row_within (λ r. used_listed s bs r (λ b. body_lives (s b) b r (nodes_view w.items) (has on (s b)))) v xs ys d0 (omega (arith, c.list_loop.auto.body, ap length d0, v.ok.0))
+    (f ∙ (λ j. used_listed s bs (nodes_view xs) (λ b. body_lives (s b) b (nodes_view xs) (nodes_view (d1 j)) (has (o j) (s b))))))
+    (row_within (λ r. used_listed s bs r (λ b. latch_lives (s b) b (nodes_view v.items) r (has on (s b)))) w ws zs d1 (omega (arith, c.list_loop.auto.step, ap length d1, w.ok.0))
+    (g ∙ (λ j. used_listed s bs (nodes_view ws) (λ b. latch_lives (s b) b (nodes_view (d0 j)) (nodes_view ws) (has (o j) (s b)))))))
 
 -- ---- the others
 
-pub list_node-returns-in_ok-to_vec-in-Break-clause-used : goal.list_node-returns-in_ok-to_vec-in-Break-clause-used
+pub list_node-returns-in-Break-clause-used : goal.list_node-returns-in-Break-clause-used
 unfolding live
-list_node-returns-in_ok-to_vec-in-Break-clause-used t c =
-    let same : c.in_ok-to_vec-in-Break.field-0.items ≡ c.args.out.now = search rules in
-    λ b i e. ap (λ l. has l i) same ∙ ap (λ k. live_node i b (kind_view c.args.n.now.place k) (lives_in c.args.on.items c.args.out.now c.args.end.now i)) (sym c.in-Break.is)
+list_node-returns-in-Break-clause-used t c =
+    IfOk-weaker c.led_to.result (λ w. w.on.items ≡ c.args.out.now)
+    (λ w. Tells c.args.homes.now.bases.items w.on.items (λ i b. live_node i b (node_view c.args.n.now) (lives_in c.args.on.items c.args.out.now c.args.end.now i)))
+    (λ w f b i e. ap (λ l. has l i) f ∙ ap (λ k. live_node i b (kind_view c.args.n.now.place k) (lives_in c.args.on.items c.args.out.now c.args.end.now i)) (sym c.in-Break.is)) c.led_to.ensures
 
-pub list_node-returns-in_ok-to_vec-in-Break-clause-kept : goal.list_node-returns-in_ok-to_vec-in-Break-clause-kept
-list_node-returns-in_ok-to_vec-in-Break-clause-kept t c = λ g b i e. way_kept i b c.args.n.now _ (lives_in c.args.on.items c.args.out.now c.args.end.now i) c.in-Break.is refl
+pub list_node-returns-in-Break-clause-kept : goal.list_node-returns-in-Break-clause-kept
+list_node-returns-in-Break-clause-kept t c =
+    IfOk-weaker c.led_to.result (λ w. w.on.items ≡ c.args.out.now) (λ w. w.kept ≡ true → AreKeptIn c.args.homes.now.bases.items (node_view c.args.n.now) c.args.on.items c.args.out.now c.args.end.now)
+    (λ w f g b i e. way_kept i b c.args.n.now _ (lives_in c.args.on.items c.args.out.now c.args.end.now i) c.in-Break.is refl) c.led_to.ensures
 
-pub list_node-returns-in_ok-to_vec-in-Next-clause-used : goal.list_node-returns-in_ok-to_vec-in-Next-clause-used
+pub list_node-returns-in-Next-clause-used : goal.list_node-returns-in-Next-clause-used
 unfolding live
-list_node-returns-in_ok-to_vec-in-Next-clause-used t c =
-    let same : c.in_ok-to_vec-in-Next.field-0.items ≡ c.args.end.now = search rules in
-    λ b i e. ap (λ l. has l i) same ∙ ap (λ k. live_node i b (kind_view c.args.n.now.place k) (lives_in c.args.on.items c.args.out.now c.args.end.now i)) (sym c.in-Next.is)
+list_node-returns-in-Next-clause-used t c =
+    IfOk-weaker c.led_to-in-Next.result (λ w. w.on.items ≡ c.args.end.now)
+    (λ w. Tells c.args.homes.now.bases.items w.on.items (λ i b. live_node i b (node_view c.args.n.now) (lives_in c.args.on.items c.args.out.now c.args.end.now i)))
+    (λ w f b i e. ap (λ l. has l i) f ∙ ap (λ k. live_node i b (kind_view c.args.n.now.place k) (lives_in c.args.on.items c.args.out.now c.args.end.now i)) (sym c.in-Next.is)) c.led_to-in-Next.ensures
 
-pub list_node-returns-in_ok-to_vec-in-Next-clause-kept : goal.list_node-returns-in_ok-to_vec-in-Next-clause-kept
-list_node-returns-in_ok-to_vec-in-Next-clause-kept t c = λ g b i e. way_kept i b c.args.n.now _ (lives_in c.args.on.items c.args.out.now c.args.end.now i) c.in-Next.is refl
+pub list_node-returns-in-Next-clause-kept : goal.list_node-returns-in-Next-clause-kept
+list_node-returns-in-Next-clause-kept t c =
+    IfOk-weaker c.led_to-in-Next.result (λ w. w.on.items ≡ c.args.end.now) (λ w. w.kept ≡ true → AreKeptIn c.args.homes.now.bases.items (node_view c.args.n.now) c.args.on.items c.args.out.now c.args.end.now)
+    (λ w f g b i e. way_kept i b c.args.n.now _ (lives_in c.args.on.items c.args.out.now c.args.end.now i) c.in-Next.is refl) c.led_to-in-Next.ensures
 
 pub list_node-returns-in-Ret-clause-used : goal.list_node-returns-in-Ret-clause-used
 unfolding live

@@ -1,4 +1,4 @@
-use Rattle.std.proofs.Common.{List, ◌++◌, ◌≡◌, ◌≤◌, length, take, drop, true}
+use Rattle.std.proofs.Common.{List, ◌++◌, ◌≡◌, ◌≤◌, ◌+◌, length, take, drop, true}
 use Rattle.struct_ir.specs.Structured.{row_size, node_size}
 use Rattle.struct_ir.specs.declared.code.Node.{Node as CodeNode}
 use Rattle.struct_ir.specs.Views.{node_view, nodes_view}
@@ -12,6 +12,9 @@ decreases-list_row l = row_size (nodes_view l.rows.now)
 
 abbrev pub decreases-list_node : goal.decreases-list_node
 decreases-list_node l = node_size (node_view l.n.now)
+
+abbrev pub decreases-list_loop : goal.decreases-list_loop
+decreases-list_loop l = row_size (nodes_view l.body.now) + row_size (nodes_view l.step.now) + 1
 
 -- the nodes behind those that are left have their lists, and the others are as they were
 abbrev pub invariant-list_row-row : goal.invariant-list_row-row
