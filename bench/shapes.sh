@@ -4,9 +4,10 @@
 #   (16,384 where none are given), for one of twice and for one of four times as many, and the exponent of growth from the second to the third: 1 where
 #   twice the text takes twice as long, 2 where it takes four times as long. What a text of no statements takes is taken off the seconds first. A run
 #   that takes more than SECONDS (60) is cut off; no exponent stands beside it. With 262144 the greatest text has 1 MiB.
-# The shapes: `pointers`, a fifth of the text declares pointers, and the others read through them in turn; `rounds`, the same with `while` before each
+# The shapes, of at most 1,000 locals, as a function may have few more: `pointers`, a fifth of the text declares pointers, and the others read through
+#   them in turn; `rounds`, the same with `while` before each
 #   read; `deep 60` and `deep 120`, the same reads within so many loops; `few`, 250 pointers and as many reads as fit; `literals`, a string for each
-#   statement; `breaks`, a loop in which objects and breaks take turns; `empty`, `blocks` and `loops`, the statements `;`, `{}` and `while(s);`; `nots`
+#   statement; `breaks`, a loop in which objects and breaks take turns, and then breaks alone; `empty`, `blocks` and `loops`, the statements `;`, `{}` and `while(s);`; `nots`
 #   and `ands`, chains of ! and of &&. By number and not by bytes: `strings`, 1,000, 8,000 and 65,000 literals, and `globals`, 1,000, 2,000 and 4,000
 #   globals that begin with a literal each and are read (a text may have 4,096).
 # All statements stand in functions that aren't called. It measures $ALASKA, or else bin/alaska, or else the one that ./alaska builds without a proof.
@@ -71,7 +72,7 @@ shape() { # name, an awk program
   printf '%-10s%s %9s\n' "$1" "$row" "$exponent"
 }
 
-pointers='for (most = 0; left > size * 4 / 5; most++) say("int*p" most "=p;")'
+pointers='for (most = 0; left > size * 4 / 5 && most < 1000; most++) say("int*p" most "=p;")'
 reads='for (k = 0; left > 0; k++)'
 heading "$bytes" $((bytes * 2)) $((bytes * 4))
 shape pointers "$pointers; $reads say(\"s+=*p\" k % most \";\")"
@@ -81,7 +82,7 @@ for depth in 60 120; do
 done
 shape few "for (most = 0; most < 250; most++) say(\"int*p\" most \"=p;\"); $reads say(\"s+=*p\" k % most \";\")"
 shape literals "$reads say(\"q=\\\"\" k \"\\\";\")"
-shape breaks "say(\"while(s){\"); $reads say(\"int v\" k \"[1];if(s)break;\"); print \"}\""
+shape breaks "say(\"while(s){\"); $reads say((k < 1000 ? \"int v\" k \"[1];\" : \"\") \"if(s)break;\"); print \"}\""
 shape empty "$reads say(\";\")"
 shape blocks "$reads say(\"{}\")"
 shape loops "$reads say(\"while(s);\")"
