@@ -161,7 +161,7 @@ pub fn sets_truth(
 pub fn one_int(alloc: Global, place: u32, t: u32, value: u8) -> Result<Vec<Node>, NoMemory>
     ensures { IfOk result (λ row. nodes_view row.items ≡ sets_int place t value no_nodes) }
 {
-    let mut row = Vec::new(alloc);
+    let mut row = Vec::with_capacity(alloc, 1)?;
     sets_int(&mut row, place, t, value)?;
     Ok(row)
 }
