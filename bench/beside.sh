@@ -1,8 +1,9 @@
 #!/usr/bin/env bash
 # The same C programs by alaska and by gcc -O0, and the same mallocs and frees over alaska's heap and over glibc's.
 # Use: bench/beside.sh      prints, for each program, the least seconds of three runs by each and how many times the second number the first is,
-#   beside the goal: the programs of examples/ that alaska runs for 0.1 seconds or more, and those of bench/beside: sums in locals, walks
-#   over an array, linked lists, hashes of a text, and mallocs and frees of drawn sizes. alaska's seconds have its compiling in them.
+#   beside the goal; the seconds by gcc -O2; and, where valgrind is on the path, how many times what memcheck takes with gcc -O0's program the first
+#   is: the programs of examples/ that alaska runs for 0.1 seconds or more, and those of bench/beside: sums in locals, walks over an array, linked
+#   lists, hashes of a text, and mallocs and frees of drawn sizes. alaska's seconds have its compiling in them.
 #   Then, for two programs that give most of their objects up, how many times the bytes that they still have the heap takes: alaska's extent
 #   behind the last barrier, without the table of ids, and what lies in memory of a process over glibc's malloc; and how many of 128 sub-heaps
 #   with --evacuate 1 evacuations emptied, each time that they did.
@@ -26,7 +27,7 @@ seconds() { # out command..: the least seconds of three runs of a command that e
 }
 
 beside() { # file goal least: one program by both; where there is a least, only one that ends with 0 and takes alaska so many seconds
-  local name ours theirs
+  local name ours theirs fast checked
   name=$(basename "$1")
   if ! ours=$(seconds ours "$program" "$1" --subheap 1048576 --subheaps 16 --entries 16000000); then
     [ -n "$3" ] && return 0
@@ -37,7 +38,12 @@ beside() { # file goal least: one program by both; where there is a least, only 
   gcc -O0 -w "${headers[@]}" -o theirs.out "$1" -pthread
   theirs=$(seconds theirs ./theirs.out)
   cmp -s ours theirs || { echo "bench/beside.sh: $name prints another thing by gcc" >&2; exit 1; }
-  awk -v name="$name" -v a="$ours" -v g="$theirs" -v goal="$2" 'BEGIN { printf "%-16s %9.3f %9.3f %9.1f %9d\n", name, a, g, a / g, goal }'
+  checked=-
+  [ -z "$memcheck" ] || checked=$(seconds checked "$memcheck" -q ./theirs.out)
+  gcc -O2 -w "${headers[@]}" -o fast.out "$1" -pthread
+  fast=$(seconds fast ./fast.out)
+  awk -v name="$name" -v a="$ours" -v g="$theirs" -v goal="$2" -v f="$fast" -v c="$checked" \
+    'BEGIN { printf "%-16s %9.3f %9.3f %9.1f %9d %9.3f %9s\n", name, a, g, a / g, goal, f, c == "-" ? c : sprintf("%.2f", a / c) }'
 }
 
 note_of() { # word: the first number of a line of the last report
@@ -61,7 +67,8 @@ heap() { # file: how much of each heap the live bytes take
   awk -v name="$(basename "$1")" -v l="$live" -v e="$extent" -v r="$resident" -v v="$emptied" 'BEGIN { printf "%-16s %11d %11d %7.2f %11d %7.2f %9d\n", name, l, e, e / l, r, r / l, v }'
 }
 
-printf '%-16s %9s %9s %9s %9s\n' program alaska 'gcc -O0' times 'at most'
+memcheck=$(command -v valgrind || true)
+printf '%-16s %9s %9s %9s %9s %9s %9s\n' program alaska 'gcc -O0' times 'at most' 'gcc -O2' memcheck
 for file in "$here"/examples/*.c; do
   beside "$file" 15 0.1
 done

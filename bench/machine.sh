@@ -1,8 +1,8 @@
 #!/usr/bin/env bash
 # How fast the machine runs C: one worker, programs compiled by `alaska` itself.
-# Use: bench/machine.sh      prints, for each program, how many rounds of its loop a second, and how many times the instructions that its
-#   loop has are done a second: sums and tests in registers, loads and stores through one translation before the loop, calls, mallocs with
-#   frees; how many rounds a second of callocs with frees, of a vector that grows by realloc, and of atomic sums; and for barriers over 256 to 1,048,576 objects the time of one barrier and of each object that it moves, and the bytes moved a second.
+# Use: bench/machine.sh      prints, for each program, how many rounds of its loop a second: sums and tests in registers, loads and stores through
+#   one translation before the loop, calls, mallocs with frees, callocs with frees, a vector that grows by realloc, and atomic sums; and for barriers
+#   over 256 to 1,048,576 objects the time of one barrier and of each object that it moves, and the bytes moved a second.
 # It measures crates/alaska/out/alaska as `rt ci` left it in this checkout, or bin/alaska, which ./prove builds.
 set -eu
 here=$(cd "$(dirname "$0")/.." && pwd)
@@ -18,12 +18,6 @@ seconds() { # words..: the seconds that a run takes
 }
 
 empty=$(printf 'int main(void){return 0;}\n' >empty.c; seconds empty.c --entries 16000000)
-
-rate() { # name file rounds instructions-a-round
-  local t
-  t=$(seconds "$2" --entries 16000000)
-  awk -v name="$1" -v t="$t" -v e="$empty" -v n="$3" -v k="$4" 'BEGIN { d = t - e; if (d <= 0) d = 1e-9; printf "%-10s %8.3f s  %8.2f million rounds/s  %8.2f million instructions/s\n", name, d, n / d / 1e6, n * k / d / 1e6 }'
-}
 
 pace() { # name file rounds
   local t
@@ -60,11 +54,10 @@ cat >adds.c <<'C'
 atomic_long n;
 int main(void){for(int i=0;i<5000000;i++)atomic_fetch_add(&n,1);printf("%ld\n",n);return 0;}
 C
-# (counted in the linear code: the test, the branch, the two sums and the round of a loop; a load, a store and a Look are a step each)
-rate sets sets.c 30000000 9
-rate loads loads.c 2000000 11
-rate calls calls.c 10000000 8
-rate mallocs mallocs.c 1000000 12
+pace sets sets.c 30000000
+pace loads loads.c 2000000
+pace calls calls.c 10000000
+pace mallocs mallocs.c 1000000
 pace callocs callocs.c 1000000
 pace grows grows.c 2000000
 pace adds adds.c 5000000
