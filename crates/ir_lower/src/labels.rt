@@ -28,7 +28,7 @@ pub fn sets_number(out: &mut Vec<Node>, place: u32, to: u32, number: u32) -> Res
 fn one_number(alloc: Global, place: u32, to: u32, number: u32) -> Result<Vec<Node>, NoMemory>
     ensures { IfOk result (λ row. nodes_view row.items ≡ sets_int place to number no_nodes) }
 {
-    let mut row = Vec::new(alloc);
+    let mut row = Vec::with_capacity(alloc, 1)?;
     sets_number(&mut row, place, to, number)?;
     Ok(row)
 }

@@ -580,7 +580,7 @@ fn guarded_stmt(
 fn test_alone(alloc: Global, f: &Frame, e: &Expr) -> Result<Vec<Node>, NoMemory>
     ensures { IfOk result (λ row. nodes_view row.items ≡ test_nodes (frame_view f.now) (Some (expr_view e.now)) no_nodes) }
 {
-    let mut row = Vec::new(alloc);
+    let mut row = Vec::with_capacity(alloc, 1)?;
     tests(alloc, f, e, &mut row)?;
     Ok(row)
 }
@@ -591,7 +591,7 @@ fn test_alone(alloc: Global, f: &Frame, e: &Expr) -> Result<Vec<Node>, NoMemory>
 fn row_of(alloc: Global, s: &Stmt, f: &Frame, left: &[u32]) -> Result<Vec<Node>, NoMemory>
     ensures { IfOk result (λ row. nodes_view row.items ≡ stmt_nodes (frame_view f.now) (stmt_view s.now) left.now no_nodes) }
 {
-    let mut row = Vec::new(alloc);
+    let mut row = Vec::with_capacity(alloc, 1)?;
     stmt(alloc, s, f, left, &mut row)?;
     Ok(row)
 }
@@ -602,7 +602,7 @@ fn row_of(alloc: Global, s: &Stmt, f: &Frame, left: &[u32]) -> Result<Vec<Node>,
 fn while_round(alloc: Global, body: &Stmt, f: &Frame, e: &Expr) -> Result<Vec<Node>, NoMemory>
     ensures { IfOk result (λ row. nodes_view row.items ≡ test_nodes (frame_view f.now) (Some (expr_view e.now)) (stmt_nodes (frame_view f.now) (stmt_view body.now) [] no_nodes)) }
 {
-    let mut row = Vec::new(alloc);
+    let mut row = Vec::with_capacity(alloc, 1)?;
     tests(alloc, f, e, &mut row)?;
     stmt(alloc, body, f, &[], &mut row)?;
     Ok(row)
@@ -614,7 +614,7 @@ fn while_round(alloc: Global, body: &Stmt, f: &Frame, e: &Expr) -> Result<Vec<No
 fn for_round(alloc: Global, body: &Stmt, f: &Frame, e: &Option<Expr>) -> Result<Vec<Node>, NoMemory>
     ensures { IfOk result (λ row. nodes_view row.items ≡ test_nodes (frame_view f.now) (optional_expr_view e.now) (stmt_nodes (frame_view f.now) (stmt_view body.now) [] no_nodes)) }
 {
-    let mut row = Vec::new(alloc);
+    let mut row = Vec::with_capacity(alloc, 1)?;
     test(alloc, f, e, &mut row)?;
     stmt(alloc, body, f, &[], &mut row)?;
     Ok(row)

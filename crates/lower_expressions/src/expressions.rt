@@ -253,7 +253,7 @@ fn args(alloc: Global, all: &[Expr], f: &Frame, t: u32, out: &mut Vec<Node>) -> 
 fn row_of(alloc: Global, e: &Expr, f: &Frame, t: u32) -> Result<Vec<Node>, NoMemory>
     ensures { IfOk result (λ row. nodes_view row.items ≡ expr_nodes (frame_view f.now) (expr_view e.now) t no_nodes) }
 {
-    let mut row = Vec::new(alloc);
+    let mut row = Vec::with_capacity(alloc, 1)?;
     expr(alloc, e, f, t, &mut row)?;
     Ok(row)
 }
@@ -264,7 +264,7 @@ fn row_of(alloc: Global, e: &Expr, f: &Frame, t: u32) -> Result<Vec<Node>, NoMem
 fn tested(alloc: Global, e: &Expr, f: &Frame, t: u32) -> Result<Vec<Node>, NoMemory>
     ensures { IfOk result (λ row. nodes_view row.items ≡ expr_nodes (frame_view f.now) (expr_view e.now) t (sets_truth e.now.place t 1 0 no_nodes)) }
 {
-    let mut row = Vec::new(alloc);
+    let mut row = Vec::with_capacity(alloc, 1)?;
     expr(alloc, e, f, t, &mut row)?;
     sets_truth(alloc, &mut row, e.place, t, 1, 0)?;
     Ok(row)

@@ -251,6 +251,14 @@ body_is f count fs body bs cs all renumbered_ made is =
     ap (λ l. stmts_of (map stmt_view l)) is ∙ followed_is cs bs ∙ ap (λ l. followed cs (stmts_of l)) renumbered_ ∙ ap (followed cs) (stmts_renumbered f body)
     ∙ made (renumbered_stmts f (stmts_of (map stmt_view body)))
 
+-- the same where there are no further locals: the body alone
+pub body_alone : (f : ℕ → ℕ) (count : ℕ) (fs : List CodeFurther) (body bs : List CodeStmt)
+    → length fs ≡ 0
+    → map stmt_view bs ≡ map (λ s. renumbered_stmt f (stmt_view s)) body
+    → stmts_of (map stmt_view bs) ≡ copies count 0 (furthers_view fs) (renumbered_stmts f (stmts_of (map stmt_view body)))
+body_alone f count [] body bs none renumbered_ = ap stmts_of renumbered_ ∙ stmts_renumbered f body
+body_alone f count (x ∷ fs) body bs none renumbered_ = absurd (omega (arith, none))
+
 -- the function, as what is made of the parameters that are in memory, and of the other locals
 abbrev made_of : List Param → List (ℕ × Param) → List Local → Ty → Stmts → Func
 made_of ps fs others r b = func (length ps) (map param_local ps ++ map further_local fs ++ others) r (copies (length ps) 0 fs (renumbered_stmts (number_of (length ps) fs) b))

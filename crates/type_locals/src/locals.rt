@@ -225,6 +225,9 @@ fn body_of(
     ensures { OnOk result (stmts_of (map stmt_view body.new.items) ≡ copies params 0 (furthers_view further.now) (renumbered_stmts (new_number numbers.now) (stmts_of (map stmt_view body.old.items)))) }
 {
     numbers.statements(body)?;
+    if further.is_empty() {
+        return Ok(());
+    }
     let mut all = Vec::new(alloc);
     copies(alloc, params, further, &mut all)?;
     all.append(body)?;

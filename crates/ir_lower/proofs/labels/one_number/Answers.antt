@@ -8,4 +8,4 @@ use Rattle.ir_lower.proofs.labels.one_number.Goals as goal
 pub returns : goal.returns
 returns c =
     sym (followed_none c.sets_number.new.out.items) ∙ c.in_ok-sets_number.ensures no_nodes
-    ∙ ap (λ l. followed l (sets_int c.args.place c.args.to c.args.number no_nodes)) c.new-row.ensures.items
+    ∙ ap (λ l. followed l (sets_int c.args.place c.args.to c.args.number no_nodes)) c.in_ok-row.ensures.items
