@@ -9,7 +9,7 @@ use Rattle.struct_ir.specs.declared.code.NodeKind.{NodeKind}
 use Rattle.struct_ir.specs.Views.{kind_view, node_view, nodes_view}
 use Rattle.struct_ir.proofs.Views.{if_is, loop_is}
 use Rattle.pin_flow.specs.Marks.{Mark, State, unreached, good, bad, join, after, Ways, at, either, in_turn, end_state, turned, round_of, head_of, flow, flow_node}
-use Rattle.pin_flow.specs.Views.{is_same, leaf, node_marked}
+use Rattle.pin_flow.specs.Views.{leaf, node_marked}
 
 join_assoc : (t u v : State) → join (join t u) v ≡ join t (join u v)
 join_assoc unreached u v = refl
@@ -37,17 +37,6 @@ on_from o t =
     let b = sym (join_none o.broken) in
     let n = sym (join_none o.next) in
     λ i. record { on = t; broken = b i; next = n i }
-
-same_is : (t u : State) → is_same t u ≡ true → t ≡ u
-same_is unreached unreached e = refl
-same_is unreached good e = absurd (let h : false ≡ true = e in cc)
-same_is unreached bad e = absurd (let h : false ≡ true = e in cc)
-same_is good unreached e = absurd (let h : false ≡ true = e in cc)
-same_is good good e = refl
-same_is good bad e = absurd (let h : false ≡ true = e in cc)
-same_is bad unreached e = absurd (let h : false ≡ true = e in cc)
-same_is bad good e = absurd (let h : false ≡ true = e in cc)
-same_is bad bad e = refl
 
 pub split_at : (rows : List CodeNode) (i : ℕ) (x : CodeNode) → i < length rows → x ≡ get_or rows i x → drop i rows ≡ x ∷ drop (i + 1) rows
 split_at rows i x le is = drop_more rows i x le ∙ ap (λ y. y ∷ drop (i + 1) rows) (sym is)
@@ -97,12 +86,6 @@ loop_from m n v w s h p c is a b e =
     let f = flow m (nodes_view v.items) in
     let g = flow m (nodes_view w.items) in
     rw (loop_is n v w is) (e ∙ (ap (λ (q : Ways). at q.broken) b ∙ ap (λ t. at (round_of f g t).broken) a))
-
--- and where they start as the first one does, by that one
-pub loop_once : (m : Mark) (n : CodeNode) (v w : Vec CodeNode) (s h : State) (o c : Ways) → n.kind ≡ views.Loop v w → h ≡ head_of (flow m (nodes_view v.items)) (flow m (nodes_view w.items)) s → is_same h s ≡ true
-    → o ≡ round_of (flow m (nodes_view v.items)) (flow m (nodes_view w.items)) s → c ≡ at o.broken → c ≡ flow_node m (node_view n) s
-loop_once m n v w s h o c is a same b e =
-    loop_from m n v w s h o c is a (b ∙ ap (round_of (flow m (nodes_view v.items)) (flow m (nodes_view w.items))) (sym (same_is h s same))) e
 
 abbrev pub is_leaf : Node → Bool
 is_leaf (plain p a) = true

@@ -11,6 +11,7 @@ pub mod At
 pub mod Covers
 pub mod Marked
 pub mod FlowRows
+pub mod BothRows
 pub mod SeenRows
 pub mod CopiedRows
 pub mod SlotRows

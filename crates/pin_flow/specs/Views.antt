@@ -1,5 +1,5 @@
 -- What the code's states, tables and marks are.
-use Rattle.std.specs.Prelude.{ℕ, Bool, true, false}
+use Rattle.std.specs.Prelude.{ℕ, Bool, false}
 use Rattle.struct_ir.specs.Nodes.{Act, Node, plain, if_, loop, break_, next_, ret, list_of}
 use Rattle.struct_ir.specs.Pins.{lacks_if}
 use Rattle.pin_flow.specs.declared.state.State.{State as CodeState}
@@ -24,18 +24,6 @@ state_view states.Bad = bad
 -- where control leaves a row
 abbrev pub ways_view : CodeWays → Ways
 ways_view o = record { on = state_view o.on; broken = state_view o.broken; next = state_view o.next }
-
--- whether two states are the same
-abbrev pub is_same : State → State → Bool
-is_same unreached unreached = true
-is_same unreached good = false
-is_same unreached bad = false
-is_same good unreached = false
-is_same good good = true
-is_same good bad = false
-is_same bad unreached = false
-is_same bad good = false
-is_same bad bad = true
 
 -- a mark
 abbrev pub mark_view : CodeMark → Mark

@@ -1,2 +1,3 @@
 -- What only bodies use.
 pub mod Marked
+pub mod Both

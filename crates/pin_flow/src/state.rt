@@ -2,7 +2,7 @@
 
 ghost use Rattle.std.specs.Prelude.{◌≡◌};
 ghost use Rattle.pin_flow.specs.Marks.{join, at, either, in_turn, turned, end_state};
-ghost use Rattle.pin_flow.specs.Views.{state_view, ways_view, is_same};
+ghost use Rattle.pin_flow.specs.Views.{state_view, ways_view};
 
 /// What the paths to a point say.
 #[derive(Clone, Copy, Debug, PartialEq, Eq)]
@@ -99,18 +99,4 @@ pub fn end_of(a: Ways) -> State
     ensures { state_view result ≡ end_state (ways_view a) }
 {
     joined(a.on, a.next)
-}
-
-/// Whether the two are the same.
-pub fn is_same(a: State, b: State) -> bool
-    ensures { result ≡ is_same (state_view a) (state_view b) }
-{
-    match (a, b) {
-        (State::Unreached, State::Unreached) => true,
-        (State::Unreached, _) => false,
-        (State::Good, State::Good) => true,
-        (State::Good, _) => false,
-        (State::Bad, State::Bad) => true,
-        (State::Bad, _) => false,
-    }
 }

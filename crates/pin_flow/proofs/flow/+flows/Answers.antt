@@ -1,8 +1,10 @@
-use Rattle.std.proofs.Common.{◌≡◌, true, refl, sym, ap, ◌∙◌, inl, inr}
+use Rattle.std.proofs.Common.{◌≡◌, true, refl, ap, ◌∙◌, inl, inr}
 use Rattle.struct_ir.specs.Views.{node_view, nodes_view}
-use Rattle.pin_flow.specs.Marks.{flow, round_of}
+use Rattle.pin_flow.specs.Marks.{flow}
 use Rattle.pin_flow.specs.Views.{mark_view, state_view, ways_view}
-use Rattle.pin_flow.proofs.FlowRows.{row_on, row_over, either_is, round_is, head_is, loop_from, loop_once, is_leaf, leaf_of, leaf_is, plain_of, is_plain, act_behind}
+use Rattle.pin_flow.specs.inner.Both.{from}
+use Rattle.pin_flow.proofs.FlowRows.{row_on, row_over, either_is, is_leaf, leaf_of, leaf_is, plain_of, is_plain, act_behind}
+use Rattle.pin_flow.proofs.BothRows.{from_node}
 use Rattle.pin_flow.proofs.flow.+flows.Goals as goal
 
 pub ways_of-loop-n-preserved : goal.ways_of-loop-n-preserved
@@ -66,30 +68,8 @@ ways_of_node-returns-in-Break t c =
     ] in
     leaf_is (mark_view c.args.mark) c.args.n.now (state_view c.args.before) (ways_view c.leaf_at.result) l c.leaf_at.ensures
 
-pub ways_of_node-returns-then-is_same : goal.ways_of_node-returns-then-is_same
-ways_of_node-returns-then-is_same t c =
+pub ways_of_node-returns-in-Loop : goal.ways_of_node-returns-in-Loop
+ways_of_node-returns-in-Loop t c =
     let m = mark_view c.args.mark in
     let s = state_view c.args.before in
-    let f = flow m (nodes_view c.in-Loop.body.items) in
-    let g = flow m (nodes_view c.in-Loop.step.items) in
-    let once : ways_view c.around-once.result ≡ round_of f g s = round_is m (nodes_view c.in-Loop.body.items) (nodes_view c.in-Loop.step.items) s (state_view c.end_of.result)
-    (ways_view c.ways_of-one.result) (ways_view c.ways_of-in-Loop.result) (ways_view c.around-once.result) (c.ways_of-one.ensures ∙ ap (λ l. flow m (nodes_view l) s) c.deref-in-Loop.ensures.value) c.end_of.ensures
-    (c.ways_of-in-Loop.ensures ∙ ap (λ l. flow m (nodes_view l) (state_view c.end_of.result)) c.deref-in-Loop-2.ensures.value) c.around-once.ensures in
-    loop_once m c.args.n.now c.in-Loop.body c.in-Loop.step s (state_view c.joined-head.result) (ways_view c.around-once.result) (ways_view c.all_on.result) c.in-Loop.is
-    (head_is f g s (state_view c.joined-head.result) (ways_view c.around-once.result) once c.joined-head.ensures) (sym c.if-is_same.ensures) once c.all_on.ensures
-
-pub ways_of_node-returns-else-is_same : goal.ways_of_node-returns-else-is_same
-ways_of_node-returns-else-is_same t c =
-    let m = mark_view c.args.mark in
-    let s = state_view c.args.before in
-    let h = state_view c.joined-head.result in
-    let f = flow m (nodes_view c.in-Loop.body.items) in
-    let g = flow m (nodes_view c.in-Loop.step.items) in
-    let once : ways_view c.around-once.result ≡ round_of f g s = round_is m (nodes_view c.in-Loop.body.items) (nodes_view c.in-Loop.step.items) s (state_view c.end_of.result)
-    (ways_view c.ways_of-one.result) (ways_view c.ways_of-in-Loop.result) (ways_view c.around-once.result) (c.ways_of-one.ensures ∙ ap (λ l. flow m (nodes_view l) s) c.deref-in-Loop.ensures.value) c.end_of.ensures
-    (c.ways_of-in-Loop.ensures ∙ ap (λ l. flow m (nodes_view l) (state_view c.end_of.result)) c.deref-in-Loop-2.ensures.value) c.around-once.ensures in
-    let twice : ways_view c.around.result ≡ round_of f g h = round_is m (nodes_view c.in-Loop.body.items) (nodes_view c.in-Loop.step.items) h (state_view c.end_of-else-is_same.result)
-    (ways_view c.ways_of-two.result) (ways_view c.ways_of-else-is_same.result) (ways_view c.around.result) (c.ways_of-two.ensures ∙ ap (λ l. flow m (nodes_view l) h) c.deref-else-is_same.ensures.value) c.end_of-else-is_same.ensures
-    (c.ways_of-else-is_same.ensures ∙ ap (λ l. flow m (nodes_view l) (state_view c.end_of-else-is_same.result)) c.deref-else-is_same-2.ensures.value) c.around.ensures in
-    loop_from m c.args.n.now c.in-Loop.body c.in-Loop.step s h (ways_view c.around.result) (ways_view c.all_on-else-is_same.result) c.in-Loop.is
-    (head_is f g s h (ways_view c.around-once.result) once c.joined-head.ensures) twice c.all_on-else-is_same.ensures
+    c.from.ensures ∙ (ap (λ z. from z s) c.both_at.ensures ∙ from_node m (node_view c.args.n.now) s)
