@@ -20,7 +20,7 @@ use Rattle.flat_meaning.specs.declared.endings.Stop.{Stop}
 use Rattle.flat_meaning.specs.Accesses.{Choice}
 use Rattle.flat_meaning.specs.Allowed.{StandsBefore}
 use Rattle.flat_meaning.specs.Events as events
-use Rattle.flat_meaning.specs.Events.{Serve, act, after, after_all, after_serves, moved_state, served_state, serving_state}
+use Rattle.flat_meaning.specs.Events.{Event, Serve, act, after, after_all, after_serves, moved_state, served_state, serving_state}
 use Rattle.flat_meaning.specs.Image.{Image}
 use Rattle.flat_meaning.specs.Journals.{journal_picks}
 use Rattle.flat_meaning.specs.Names.{Name, ids_in}
@@ -67,6 +67,18 @@ bound_of must = 0
 -- all threads at home, behind a barrier's moves, where it begins to serve and threads shared this before the moves
 abbrev pub swept_first : LinearCode → Shared → State Shared Context → events.State Spot
 swept_first code shared x = let s = at_home shared (homes_of x.places) in serving_state (moved_state (sweep_moves (image_of code shared) s) s)
+
+-- the machine's events of a turn, of a thread that has gone on to this stage and stops there
+abbrev pub turn_events : LinearCode → State Shared Context → (thread : ℕ) → Stage Spot → Stop → List Event
+turn_events code x thread stage stop = events_of (image_of code x.shared) thread x.shared.memory stage stop
+
+-- and the state behind them
+abbrev pub behind_turn : LinearCode → State Shared Context → (thread : ℕ) → Stage Spot → Stop → events.State Spot
+behind_turn code x thread stage stop = after_all (image_of code x.shared) (turn_events code x thread stage stop) (gone_to x thread stage)
+
+-- the allocations that a barrier serves, in their order
+abbrev pub barrier_serves : LinearCode → Shared → State Shared Context → List Serve
+barrier_serves code shared x = sweep_serves (image_of code shared) (at_home shared (homes_of x.places))
 
 -- ---- a step in a state
 
@@ -123,12 +135,12 @@ pub record TurnOf (code : LinearCode) (s : Settings) (log : List Entry) (e : Ent
   pub alone : (gone_on code (bound_of mood) context).turns ≡ e.local
   pub next : State Shared Context
   pub goes : step (machine_of code) (rules_of s) here e ≡ Some next
-  pub memory : let y = image_of code here.shared in next.shared.memory ≡ (after_all y (events_of y e.thread here.shared.memory stage stop) (gone_to here e.thread stage)).memory
-  pub ending : let y = image_of code here.shared in next.ending ≡ (after_all y (events_of y e.thread here.shared.memory stage stop) (gone_to here e.thread stage)).end
-  pub turns : let y = image_of code here.shared in
-      journal_picks (e ∷ []) ≡ replicate e.local (pick e.thread answers.Plain) ++ order_of y (events_of y e.thread here.shared.memory stage stop) (gone_to here e.thread stage)
-  pub keeps : let y = image_of code here.shared in (choice : Choice) → events_of y e.thread here.shared.memory stage stop ≡ act e.thread choice ∷ []
-      → Claim (journal_picks log ++ replicate e.local (pick e.thread answers.Plain)) y (gone_to here e.thread stage) choice stage
+  pub memory : next.shared.memory ≡ (behind_turn code here e.thread stage stop).memory
+  pub ending : next.ending ≡ (behind_turn code here e.thread stage stop).end
+  pub turns : journal_picks (e ∷ [])
+      ≡ replicate e.local (pick e.thread answers.Plain) ++ order_of (image_of code here.shared) (turn_events code here e.thread stage stop) (gone_to here e.thread stage)
+  pub keeps : (choice : Choice) → turn_events code here e.thread stage stop ≡ act e.thread choice ∷ []
+      → Claim (journal_picks log ++ replicate e.local (pick e.thread answers.Plain)) (image_of code here.shared) (gone_to here e.thread stage) choice stage
 
 -- unless a turn broke a rule, of the journal so far or of the thread's own, its step stays in the run of these turns
 abbrev pub TurnStays : Ir → LinearCode → Settings → List Entry → Entry → Type 0
@@ -146,9 +158,9 @@ pub record ServesOf (code : LinearCode) (s : Settings) (log : List Entry) (e : E
   pub alone : none_out (machine_of code) (rules_of s) here ≡ true
   pub next : State Shared Context
   pub goes : rules.run (machine_of code) (rules_of s) (log ++ e ∷ []) (states.start (machine_of code) (rules_of s) (first_shared code (settings_limits s))) ≡ Some next
-  pub memory : let shared = middle code s here in let y = image_of code shared in
-      next.shared.memory ≡ (served_state (after_serves y (sweep_serves y (at_home shared (homes_of here.places))) (swept_first code shared here))).memory
-  pub keeps : let shared = middle code s here in let y = image_of code shared in (vs : List Serve) (v : Serve) (us : List Serve) → sweep_serves y (at_home shared (homes_of here.places)) ≡ vs ++ v ∷ us
+  pub memory : let shared = middle code s here in
+      next.shared.memory ≡ (served_state (after_serves (image_of code shared) (barrier_serves code shared here) (swept_first code shared here))).memory
+  pub keeps : let shared = middle code s here in let y = image_of code shared in (vs : List Serve) (v : Serve) (us : List Serve) → barrier_serves code shared here ≡ vs ++ v ∷ us
       → (q : Thread Spot Words) × (own_at (after_serves y vs (swept_first code shared here)).own v.thread ≡ Some (waiting q))
       × Claim (journal_picks front ++ picks_of_serves y vs (swept_first code shared here)) (ids_told front ++ served_ids vs) y (served_state (after_serves y vs (swept_first code shared here))) v q
 

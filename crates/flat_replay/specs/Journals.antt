@@ -4,6 +4,7 @@ use Rattle.ak_trace.specs.declared.entry.Entry.{Entry}
 use Rattle.struct_ir.specs.Instrs.{LinearCode}
 use Rattle.struct_ir.specs.Linear.{Spot}
 use Rattle.flat_meaning.specs.Allowed.{AreAllowed}
+use Rattle.flat_meaning.specs.Events as meaning
 use Rattle.flat_meaning.specs.Events.{Event, after_all, first_state}
 use Rattle.flat_meaning.specs.Image.{Image, linear_image}
 use Rattle.flat_meaning.specs.Journals.{journal_picks}
@@ -23,6 +24,14 @@ use Rattle.flat_replay.specs.Ids.{ids_told}
 abbrev pub image_for : LinearCode → Settings → Image Spot
 image_for code s = linear_image code (settings_limits s)
 
+-- where it begins
+abbrev pub first_for : LinearCode → Settings → meaning.State Spot
+first_for code s = first_state (image_for code s)
+
+-- and where these events lead from there, one after the other
+abbrev pub run_for : LinearCode → Settings → List Event → meaning.State Spot
+run_for code s events = after_all (image_for code s) events (first_for code s)
+
 -- a thread's context, wherever it is
 abbrev pub context_in : Place Context → Option Context
 context_in (unbegun c) = Some c
@@ -39,11 +48,11 @@ stages_in x = stages_home x.shared.memory.threads (map context_in x.places)
 -- that they hand out
 pub record IsOfEvents (code : LinearCode) (s : Settings) (log : List Entry) (x : State Shared Context) : Type 0 where
   pub events : List Event
-  pub allowed : AreAllowed (image_for code s) events (first_state (image_for code s))
-  pub memory : (after_all (image_for code s) events (first_state (image_for code s))).memory ≡ x.shared.memory
-  pub ending : (after_all (image_for code s) events (first_state (image_for code s))).end ≡ x.ending
-  pub stages : x.ending ≡ None → (after_all (image_for code s) events (first_state (image_for code s))).own ≡ stages_in x
+  pub allowed : AreAllowed (image_for code s) events (first_for code s)
+  pub memory : (run_for code s events).memory ≡ x.shared.memory
+  pub ending : (run_for code s events).end ≡ x.ending
+  pub stages : x.ending ≡ None → (run_for code s events).own ≡ stages_in x
   pub image : image_of code x.shared ≡ image_for code s
-  pub order : order_of (image_for code s) events (first_state (image_for code s)) ≡ journal_picks log
-  pub attempts : map placed (attempts_of (image_for code s) events 0 (first_state (image_for code s))) ≡ attempts_from 0 log
+  pub order : order_of (image_for code s) events (first_for code s) ≡ journal_picks log
+  pub attempts : map placed (attempts_of (image_for code s) events 0 (first_for code s)) ≡ attempts_from 0 log
   pub ids : ids_of events ≡ ids_told log

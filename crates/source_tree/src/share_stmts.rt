@@ -2,14 +2,14 @@
 
 ghost use Rattle.std.specs.Prelude.{◌≡◌, IfOk, map};
 ghost use Rattle.c_tree.specs.Typed as tree;
-ghost use Rattle.c_tree.specs.TypedViews.{label_view, stmt_view, stmt_node_view, func_view, typed_view};
+ghost use Rattle.c_tree.specs.TypedViews.{expr_view, optional_expr_view, label_view, stmt_view, stmt_node_view, func_view, typed_view};
 ghost use Rattle.source_tree.specs.SharedViews.{stmt_of, row_of, these, expr_of, labels_of, func_of, program_of};
 ghost use Rattle.c_tree.specs.Typed.{stmts_of};
 
 use crate::share_exprs::{share_expr, share_optional};
 use crate::tree::{SharedExpr, SharedFunc, SharedLabels, SharedProgram, SharedRow, SharedStmt};
-use ak_words::NoMemory;
-use c_tree::typed::{Func, Label, Stmt, StmtNode, Typed};
+use ak_words::{NoMemory, Op};
+use c_tree::typed::{Expr, Func, Label, Stmt, StmtNode, Typed};
 use std::alloc::Global;
 use std::rc::Rc;
 
@@ -43,48 +43,24 @@ fn share_node(alloc: Global, place: u32, node: &StmtNode) -> Result<SharedStmt, 
             let one = share_stmt(alloc, one)?;
             Ok(SharedStmt::If(place, e, one))
         }
-        StmtNode::If(e, one, Some(other)) => {
-            let e = share_expr(alloc, e)?;
-            let one = share_stmt(alloc, one)?;
-            let other = share_stmt(alloc, other)?;
-            Ok(SharedStmt::IfElse(place, e, one, other))
-        }
+        StmtNode::If(e, one, Some(other)) => share_if_else(alloc, place, e, one, other),
         StmtNode::While(e, body) => {
             let e = share_expr(alloc, e)?;
             let body = share_stmt(alloc, body)?;
             Ok(SharedStmt::While(place, e, body))
         }
-        StmtNode::For(first, e, step, body) => {
-            let first = share_stmt(alloc, first)?;
-            let e = share_optional(alloc, e)?;
-            let step = share_stmt(alloc, step)?;
-            let body = share_stmt(alloc, body)?;
-            Ok(SharedStmt::For(place, first, e, step, body))
-        }
+        StmtNode::For(first, e, step, body) => share_for(alloc, place, first, e, step, body),
         StmtNode::DoWhile(body, e) => {
             let body = share_stmt(alloc, body)?;
             let e = share_expr(alloc, e)?;
             Ok(SharedStmt::DoWhile(place, body, e))
         }
-        StmtNode::Switch(e, labels, body) => {
-            let e = share_expr(alloc, e)?;
-            let labels = share_labels(alloc, labels)?;
-            let body = share_row(alloc, body)?;
-            Ok(shared_switch(place, e, labels, body))
-        }
+        StmtNode::Switch(e, labels, body) => share_switch(alloc, place, body, e, labels),
         StmtNode::Break => Ok(SharedStmt::Break(place)),
         StmtNode::Continue => Ok(SharedStmt::Continue(place)),
         StmtNode::Return(value) => Ok(SharedStmt::Return(place, share_optional(alloc, value)?)),
-        StmtNode::Assign(left, right) => {
-            let left = share_expr(alloc, left)?;
-            let right = share_expr(alloc, right)?;
-            Ok(SharedStmt::Assign(place, left, right))
-        }
-        StmtNode::Update(left, op, right) => {
-            let left = share_expr(alloc, left)?;
-            let right = share_expr(alloc, right)?;
-            Ok(SharedStmt::Update(place, left, *op, right))
-        }
+        StmtNode::Assign(left, right) => share_assign(alloc, place, left, right),
+        StmtNode::Update(left, op, right) => share_update(alloc, place, left, *op, right),
         StmtNode::Eval(e) => Ok(SharedStmt::Eval(place, share_expr(alloc, e)?)),
         StmtNode::Empty => Ok(SharedStmt::Empty(place)),
     }
@@ -95,6 +71,90 @@ fn shared_block(place: u32, body: Rc<SharedRow>) -> SharedStmt
     ensures { stmt_of result ≡ tree.at_stmt place (tree.block (row_of body.value)) }
 {
     SharedStmt::Block(place, body)
+}
+
+// An `if` with its `else`.
+#[cycle(share_stmts)]
+fn share_if_else(
+    alloc: Global,
+    place: u32,
+    e: &Expr,
+    one: &Stmt,
+    other: &Stmt,
+) -> Result<SharedStmt, NoMemory>
+    ensures { IfOk result (λ shared. stmt_of shared ≡ tree.at_stmt place (tree.if_else (expr_view e.now) (stmt_view one.now) (stmt_view other.now))) }
+{
+    let e = share_expr(alloc, e)?;
+    let one = share_stmt(alloc, one)?;
+    let other = share_stmt(alloc, other)?;
+    Ok(SharedStmt::IfElse(place, e, one, other))
+}
+
+// A `for`.
+#[cycle(share_stmts)]
+fn share_for(
+    alloc: Global,
+    place: u32,
+    first: &Stmt,
+    e: &Option<Expr>,
+    step: &Stmt,
+    body: &Stmt,
+) -> Result<SharedStmt, NoMemory>
+    ensures { IfOk result (λ shared.
+        stmt_of shared ≡ tree.at_stmt place (tree.for_ (stmt_view first.now) (optional_expr_view e.now) (stmt_view step.now) (stmt_view body.now))) }
+{
+    let first = share_stmt(alloc, first)?;
+    let e = share_optional(alloc, e)?;
+    let step = share_stmt(alloc, step)?;
+    let body = share_stmt(alloc, body)?;
+    Ok(SharedStmt::For(place, first, e, step, body))
+}
+
+// A `switch`.
+#[cycle(share_stmts)]
+fn share_switch(
+    alloc: Global,
+    place: u32,
+    body: &[Stmt],
+    e: &Expr,
+    labels: &[Label],
+) -> Result<SharedStmt, NoMemory>
+    ensures { IfOk result (λ shared.
+        stmt_of shared ≡ tree.at_stmt place (tree.switch (expr_view e.now) (map label_view labels.now) (stmts_of (map stmt_view body.now)))) }
+{
+    let e = share_expr(alloc, e)?;
+    let labels = share_labels(alloc, labels)?;
+    let body = share_row(alloc, body)?;
+    Ok(shared_switch(place, e, labels, body))
+}
+
+// A simple assignment.
+fn share_assign(
+    alloc: Global,
+    place: u32,
+    left: &Expr,
+    right: &Expr,
+) -> Result<SharedStmt, NoMemory>
+    ensures { IfOk result (λ shared. stmt_of shared ≡ tree.at_stmt place (tree.assign (expr_view left.now) (expr_view right.now))) }
+{
+    let left = share_expr(alloc, left)?;
+    let right = share_expr(alloc, right)?;
+    Ok(SharedStmt::Assign(place, left, right))
+}
+
+// A compound assignment, or `++` or `--`.
+fn share_update(
+    alloc: Global,
+    place: u32,
+    left: &Expr,
+    op: Op,
+    right: &Expr,
+) -> Result<SharedStmt, NoMemory>
+    ensures { IfOk result (λ shared. stmt_of shared ≡ tree.at_stmt place (tree.update (expr_view left.now) op (expr_view right.now))) }
+{
+    let left = share_expr(alloc, left)?;
+    let right = share_expr(alloc, right)?;
+    Ok(SharedStmt::Update(place, left, op, right))
 }
 
 // A switch.
