@@ -4,7 +4,9 @@ use Rattle.std.proofs.lemmas.Bool.{cases_eq, cases_lt, false≢true, eq-eqb, ne_
 use Rattle.std.proofs.lemmas.List.{get_or_append_left, get_or-append_right, get_or_past, get_or_push, get_or_default, get_or-set_same, get_or-set_other, get_or-replicate, length-set, length-replicate, set-append_left, set-append_right}
 use Rattle.std.proofs.Math.Seq.{set-append_seam}
 use Rattle.std.proofs.lemmas.List.Sums.{sum_by-set, sum_by-append, sum_by-cons}
-use Rattle.std.specs.BinaryHeap.{IsUpperBound}
+use Rattle.std.proofs.lemmas.List.Sorted.{sum_by_popped, sum_by_pushed}
+use Rattle.std.specs.BinaryHeap.{IsHeap, IsUpperBound}
+use Rattle.std.specs.List.Sorted.{IsPermutation}
 use Rattle.std.specs.List.{sum_by}
 use Rattle.std.specs.declared.cmp.Reverse.{Reverse}
 use Rattle.handle_table.specs.Table.{IsFree, IsFull, IsInUse, IsLeastFree, IsSound, address_of}
@@ -23,6 +25,18 @@ vacancy-none (Some at) none = absurd (false≢true (sym none))
 usage-some : (entry : Option ℕ) → IsSome entry → usage entry ≡ 1
 usage-some None some = absurd (false≢true some)
 usage-some (Some at) some = refl
+
+vacancy-most : (entry : Option ℕ) → vacancy entry ≤ 1
+vacancy-most None = omega arith
+vacancy-most (Some at) = omega arith
+
+vacancy-some-none : (entry : Option ℕ) → IsSome entry → vacancy entry ≡ 0
+vacancy-some-none None some = absurd (false≢true some)
+vacancy-some-none (Some at) some = refl
+
+usage-none : (entry : Option ℕ) → IsNone entry → usage entry ≡ 0
+usage-none None none = refl
+usage-none (Some at) none = absurd (false≢true (sym none))
 
 usage-most : (entry : Option ℕ) → usage entry ≤ 1
 usage-most None = omega arith
@@ -123,18 +137,70 @@ module _ (ids : ℕ) (taken : List (Option ℕ)) (given : List (Reverse ℕ)) (h
   IsFree-table : (id : ℕ) → id < length taken → IsNone (get_or taken id None) → IsFree (table_of ids taken) id
   IsFree-table id within none = (omega (arith, length-table ids taken kept.within, kept.within), subst IsNone (sym (address-taken ids taken id)) none)
 
-  module _ (top : Reverse ℕ) (rest : List (Reverse ℕ)) (one : times top.0 given ≡ suc (times top.0 rest)) (bound : IsUpperBound lowest_last top given) where
+  module _ (top : Reverse ℕ) (rest : List (Reverse ℕ)) (popped : IsPermutation given (top ∷ rest)) where
+    times-popped : (id : ℕ) → times id rest + cond (eqb top.0 id) 1 0 ≡ times id given
+    times-popped id = sum_by_popped (λ (g : Reverse ℕ). cond (eqb g.0 id) 1 0) top given rest popped
+
+    one : times top.0 rest + 1 ≡ times top.0 given
+    one = omega (arith, times-popped top.0, ap {B = ℕ} (λ b. cond b 1 0) (eq-eqb top.0 top.0 refl))
+
     pub top-taken : top.0 < length taken
     top-taken = (given-free top.0 (omega (arith, one))).0
 
-    pub top-least : IsLeastFree (table_of ids taken) top.0
-    top-least = record {
+    pub top-least : IsUpperBound lowest_last top given → IsLeastFree (table_of ids taken) top.0
+    top-least bound = record {
       free = IsFree-table top.0 top-taken (given-free top.0 (omega (arith, one))).1;
       least = λ other free. elim (cases_lt other (length taken)) [
         | inl within ↦ lowest given top other bound (omega (arith, free-given other within (subst IsNone (address-taken ids taken other) free.1)))
         | inr past ↦ omega (arith, top-taken)
       ];
     }
+
+    pub top-kept : (left : ℕ) → IsHeap lowest_last rest → left + 1 ≡ held → IsKept ids (set taken top.0 (Some 0)) rest left taken_room given_room
+    top-kept left ordered number =
+        let same_vacancy : vacancy (get_or (set taken top.0 (Some 0)) top.0 (Some 0)) ≡ 0 = ap vacancy (get_or-set_same taken top.0 (Some 0) (Some 0) top-taken) in
+        let uses : sum_by usage (set taken top.0 (Some 0)) + usage (get_or taken top.0 None) ≡ sum_by usage taken + 1 = sum_by-set usage taken top.0 (Some 0) None top-taken in
+        record {
+          some = kept.some;
+          bound = kept.bound;
+          within = omega (arith, length-set taken top.0 (Some 0), kept.within);
+          ordered = ordered;
+          once = λ id. elim (cases_eq id top.0) [
+            | inl same ↦ subst (λ i. times i rest ≡ vacancy (get_or (set taken top.0 (Some 0)) i (Some 0))) (sym same) (omega (arith, one, kept.once top.0, vacancy-most (get_or taken top.0 (Some 0)), same_vacancy))
+            | inr other ↦ omega (arith, times-popped id, ap {B = ℕ} (λ b. cond b 1 0) (ne_eqb top.0 id (λ e. other (sym e))), kept.once id, ap vacancy (get_or-set_other taken top.0 id (Some 0) (Some 0) other))
+          ];
+          number = omega (arith, number, kept.number, length-set taken top.0 (Some 0), uses, usage-none (get_or taken top.0 None) (given-free top.0 (omega (arith, one))).1);
+          for_taken = kept.for_taken;
+          for_given = kept.for_given;
+        }
+
+  -- ---- an id that is given back
+
+  module _ (id : ℕ) (within : id < length taken) (in_use : IsSome (get_or taken id None)) where
+    pub give-room : held < given_room
+    give-room =
+        let uses : sum_by usage (set taken id None) + usage (get_or taken id None) ≡ sum_by usage taken + 0 = sum_by-set usage taken id None None within in
+        omega (arith, uses, usage-some (get_or taken id None) in_use, kept.number, kept.within, kept.for_given)
+
+    pub give-kept : (top : Reverse ℕ) (more : List (Reverse ℕ)) (now room : ℕ) → top.0 ≡ id → IsPermutation (top ∷ given) more → IsHeap lowest_last more → now ≡ held + 1 → given_room ≤ room → IsKept ids (set taken id None) more now taken_room room
+    give-kept top more now room is pushed ordered number longer =
+        let same_vacancy : vacancy (get_or (set taken id None) id (Some 0)) ≡ 1 = ap vacancy (get_or-set_same taken id None (Some 0) within) in
+        let uses : sum_by usage (set taken id None) + usage (get_or taken id None) ≡ sum_by usage taken + 0 = sum_by-set usage taken id None None within in
+        let before : vacancy (get_or taken id (Some 0)) ≡ 0 = ap vacancy (get_or_default taken id (Some 0) None within) ∙ vacancy-some-none (get_or taken id None) in_use in
+        let times-pushed : (i : ℕ) → times i more ≡ cond (eqb top.0 i) 1 0 + times i given = λ i. sum_by_pushed (λ (g : Reverse ℕ). cond (eqb g.0 i) 1 0) top given more pushed in
+        record {
+          some = kept.some;
+          bound = kept.bound;
+          within = omega (arith, length-set taken id None, kept.within);
+          ordered = ordered;
+          once = λ i. elim (cases_eq i id) [
+            | inl same ↦ subst (λ i. times i more ≡ vacancy (get_or (set taken id None) i (Some 0))) (sym same) (omega (arith, times-pushed id, ap {B = ℕ} (λ b. cond b 1 0) (eq-eqb top.0 id is), kept.once id, before, same_vacancy))
+            | inr other ↦ omega (arith, times-pushed i, ap {B = ℕ} (λ b. cond b 1 0) (ne_eqb top.0 i (λ e. other (sym e ∙ is))), kept.once i, ap vacancy (get_or-set_other taken id i None (Some 0) other))
+          ];
+          number = omega (arith, number, kept.number, length-set taken id None, uses, usage-some (get_or taken id None) in_use);
+          for_taken = kept.for_taken;
+          for_given = omega (arith, kept.for_given, longer);
+        }
 
   -- ---- where none was given back
 
