@@ -1,2 +1,2 @@
 -- What the bodies use, and no public clause.
-pub mod Tree
+pub mod Kept

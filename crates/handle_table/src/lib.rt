@@ -5,7 +5,6 @@
 
 mod frame;
 mod table;
-mod tree;
 mod words;
 
 pub use frame::{PinFrame, PinSlot};

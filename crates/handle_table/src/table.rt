@@ -1,32 +1,35 @@
 ghost use Rattle.std.specs.Prelude.{◌≡◌, ℕ, ◌<◌, ◌≤◌, ◌↔◌, Option, Some, None, List, replicate, slice_set, IsTrue, IsSome, IsNone, IfSome, IfNone, IfOk};
 ghost use Rattle.handle_table.specs.Table.{IsFull, IsInUse, IsLeastFree, IsSound, address_of, translated};
 
-use crate::tree::{least_leaf, number_leaves, write_leaf};
 use ak_words::NoMemory;
 use handle_words::{id, is_handle, offset};
 use std::alloc::Global;
+use std::cmp::Reverse;
+use std::collections::BinaryHeap;
 use std::marker::Model;
-
-// The leaf of an id in use: above every id.
-const IN_USE: u32 = u32::MAX;
 
 /// The ids from 0 on, and the address of each one that is in use.
 #[derive(Debug, Drop)]
 pub struct Table {
+    ids: u32,
+    // Of the ids that were in use before or are now: the lowest ones.
     addresses: Vec<Option<u64>>,
-    free: Vec<u32>,
+    // Those of them that were given back.
+    given: BinaryHeap<Reverse<u32>>,
 }
 
-// Clauses see the entries by id; `free` is a tree that finds the least free id.
+// Clauses see the entries of all ids.
 impl Model for Table {
     ghost use Rattle.std.specs.Prelude.{ℕ, List, Option};
-    ghost use Rattle.handle_table.specs.inner.Tree.{IsTreeOf};
+    ghost use Rattle.std.specs.Vec.{vec_capacity};
+    ghost use Rattle.std.specs.BinaryHeap.{heap_items, heap_len, heap_capacity};
+    ghost use Rattle.handle_table.specs.inner.Kept.{table_of, IsKept};
 
     ghost Value = { List (Option ℕ) };
 
-    ghost view = { λ t. t.addresses.items };
+    ghost view = { λ t. table_of t.ids t.addresses.items };
 
-    ghost invariant = { λ t. IsTreeOf t.addresses.items t.free.items };
+    ghost invariant = { λ t. IsKept t.ids t.addresses.items (heap_items t.given) (heap_len t.given) (vec_capacity t.addresses) (heap_capacity t.given) };
 }
 
 impl Table {
@@ -37,10 +40,13 @@ impl Table {
         ensures made { IfOk result (λ t. t ≡ replicate n None) }
         ensures sound { IfOk result IsSound }
     {
-        let addresses = vec![in alloc; None; n as usize]?;
-        let mut free = vec![in alloc; IN_USE; 2 * n as usize]?;
-        number_leaves(&mut free, n);
-        Ok(Table { addresses, free })
+        let addresses = Vec::with_capacity(alloc, n as usize)?;
+        let given = BinaryHeap::with_capacity(alloc, n as usize)?;
+        Ok(Table {
+            ids: n,
+            addresses,
+            given,
+        })
     }
 
     /// Marks the least free id as in use, with address 0, and gives it; none where all are in use.
@@ -51,10 +57,16 @@ impl Table {
         ensures unchanged { IfNone result (self.new ≡ self.old) }
         ensures sound { IsSound self.new }
     {
-        let id = self.least_free()?;
-        let leaf = self.addresses.len() + id as usize;
-        write_leaf(&mut self.free, leaf, IN_USE);
-        self.addresses[id as usize] = Some(0);
+        // The ids that were given back are lower than those that never were in use.
+        if let Some(Reverse(id)) = self.given.pop() {
+            self.addresses[id as usize] = Some(0);
+            return Some(id);
+        }
+        let id = self.addresses.len() as u32;
+        if id == self.ids {
+            return None;
+        }
+        self.addresses.push_reserved(Some(0));
         Some(id)
     }
 
@@ -73,9 +85,11 @@ impl Table {
         ensures given { self.new ≡ slice_set self.old id None }
         ensures sound { IsSound self.new }
     {
-        let leaf = self.addresses.len() + id as usize;
-        write_leaf(&mut self.free, leaf, id);
         self.addresses[id as usize] = None;
+        match self.given.push(Reverse(id)) {
+            Ok(()) => {}
+            Err(_) => unreachable!(),
+        }
     }
 
     /// Whether an id is in use.
@@ -98,16 +112,6 @@ impl Table {
             Some(at) => at.wrapping_add(u64::from(offset(w))),
             None => 0,
         }
-    }
-
-    // The least id that is not in use.
-    fn least_free(&self) -> Option<u32>
-        ensures least { IfSome result (IsLeastFree self.now) }
-        ensures none { IsNone result ↔ IsFull self.now }
-        ensures sound { IsSound self.now }
-    {
-        let id = least_leaf(&self.free);
-        if id == IN_USE { None } else { Some(id) }
     }
 
     // The address of an id, if it is in use.
