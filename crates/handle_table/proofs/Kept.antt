@@ -70,9 +70,9 @@ lowest : (given : List (Reverse ℕ)) (top : Reverse ℕ) (id : ℕ) → IsUpper
 lowest [] top id bound some = absurd (omega arith)
 lowest (g ∷ given) top id bound some = elim (cases_eq g.0 id) [
   | inl same ↦ elim (cases_lt g.0 top.0) [
-      | inl below ↦ absurd (false≢true (sym ((rw (lt-ltb g.0 top.0 below) at bound.0))))
-      | inr above ↦ omega arith
-    ]
+    | inl below ↦ absurd (false≢true (sym ((rw (lt-ltb g.0 top.0 below) at bound.0))))
+    | inr above ↦ omega arith
+  ]
   | inr other ↦ lowest given top id bound.1 (omega (arith, times-cons id g given, ap {B = ℕ} (λ b. cond b 1 0) (ne_eqb g.0 id other)))
 ]
 
@@ -92,8 +92,8 @@ address-taken ids taken id = elim (cases_lt id (length taken)) [
   | inl within ↦ get_or_append_left taken (replicate (ids - length taken) None) None id within
   | inr past ↦
       get_or-append_right taken (replicate (ids - length taken) None) (length taken) id None refl past
-        ∙ past-replicate (ids - length taken) (id - length taken)
-        ∙ sym (get_or_past taken id None past)
+      ∙ past-replicate (ids - length taken) (id - length taken)
+      ∙ sym (get_or_past taken id None past)
 ]
 
 pub length-table : (ids : ℕ) (taken : List (Option ℕ)) → length taken ≤ ids → length (table_of ids taken) ≡ ids

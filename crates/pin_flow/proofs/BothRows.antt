@@ -6,7 +6,7 @@ use Rattle.struct_ir.specs.declared.code.NodeKind.TheViews as views
 use Rattle.struct_ir.specs.Nodes.{Node, loop, Nodes}
 use Rattle.struct_ir.specs.Views.{node_view, nodes_view}
 use Rattle.struct_ir.proofs.Views.{loop_is}
-use Rattle.pin_flow.specs.Marks.{Mark, State, unreached, good, bad, join, Ways, at, in_turn, either, end_state, turned, round_of, head_of, flow, flow_node}
+use Rattle.pin_flow.specs.Marks.{Mark, AllPaths, unreached, good, bad, join, Ways, at, in_turn, either, end_state, turned, round_of, head_of, flow, flow_node}
 use Rattle.pin_flow.specs.Views.{leaf}
 use Rattle.pin_flow.specs.inner.Both.{Both, both_of, from}
 use Rattle.pin_flow.proofs.Order.{flow_idle, node_idle}
@@ -14,18 +14,18 @@ use Rattle.pin_flow.proofs.FlowRows.{is_leaf, leaf_is, either_is}
 
 -- ---- from any state, by what leads from two
 
-pub from_row : (m : Mark) (ns : Nodes) (t : State) → from (both_of (flow m ns)) t ≡ flow m ns t
+pub from_row : (m : Mark) (ns : Nodes) (t : AllPaths) → from (both_of (flow m ns)) t ≡ flow m ns t
 from_row m ns unreached = sym (flow_idle m ns)
 from_row m ns good = refl
 from_row m ns bad = refl
 
-pub from_node : (m : Mark) (n : Node) (t : State) → from (both_of (flow_node m n)) t ≡ flow_node m n t
+pub from_node : (m : Mark) (n : Node) (t : AllPaths) → from (both_of (flow_node m n)) t ≡ flow_node m n t
 from_node m n unreached = sym (node_idle m n)
 from_node m n good = refl
 from_node m n bad = refl
 
 -- before the first node of a row
-pub row_start : (m : Mark) (ns : Nodes) (t : State) (a : Ways) → a ≡ at t → in_turn a (flow m ns a.on) ≡ flow m ns t
+pub row_start : (m : Mark) (ns : Nodes) (t : AllPaths) (a : Ways) → a ≡ at t → in_turn a (flow m ns a.on) ≡ flow m ns t
 row_start m ns t a e = ap (λ (o : Ways). in_turn o (flow m ns o.on)) e
 
 -- ---- nodes that hold others
@@ -38,18 +38,18 @@ branches_are m n temp v w a b c is e f g h =
     λ j. record { good = x j; bad = y j }
 
 -- a round: o where its body leads, p where its step leads from there
-pub round_by : (f g : State → Ways) (s z : State) (o p r : Ways) → o ≡ f s → z ≡ end_state o → p ≡ g z → r ≡ turned o p → r ≡ round_of f g s
+pub round_by : (f g : AllPaths → Ways) (s z : AllPaths) (o p r : Ways) → o ≡ f s → z ≡ end_state o → p ≡ g z → r ≡ turned o p → r ≡ round_of f g s
 unfolding round_of
 round_by f g s z o p r a b c d = d ∙ (λ i. turned (a i) ((c ∙ ap g (b ∙ ap end_state a)) i))
 
 -- a loop whose rounds start so
-pub looped_by : (f g : State → Ways) (s h : State) (o p c : Ways) → o ≡ round_of f g s → h ≡ join s o.on → p ≡ round_of f g h → c ≡ at p.broken → c ≡ at (round_of f g (head_of f g s)).broken
+pub looped_by : (f g : AllPaths → Ways) (s h : AllPaths) (o p c : Ways) → o ≡ round_of f g s → h ≡ join s o.on → p ≡ round_of f g h → c ≡ at p.broken → c ≡ at (round_of f g (head_of f g s)).broken
 unfolding head_of
 looped_by f g s h o p c a b d e =
     let x : h ≡ join s (round_of f g s).on = b ∙ ap (λ (q : Ways). join s q.on) a in
     e ∙ (ap (λ (q : Ways). at q.broken) d ∙ ap (λ t. at (round_of f g t).broken) x)
 
-loop_by : (m : Mark) (p : ℕ) (v w : Nodes) (t : State)
+loop_by : (m : Mark) (p : ℕ) (v w : Nodes) (t : AllPaths)
     → at (round_of (from (both_of (flow m v))) (from (both_of (flow m w))) (head_of (from (both_of (flow m v))) (from (both_of (flow m w))) t)).broken ≡ flow_node m (loop p v w) t
 unfolding flow
 loop_by m p v w t =
@@ -57,7 +57,7 @@ loop_by m p v w t =
     let g : from (both_of (flow m w)) ≡ flow m w = λ j u. from_row m w u j in
     λ j. at (round_of (f j) (g j) (head_of (f j) (g j) t)).broken
 
-loop_is_by : (m : Mark) (n : CodeNode) (v w : Vec CodeNode) (a b : Both) (t : State) (c : Ways) → n.kind ≡ views.Loop v w → a ≡ both_of (flow m (nodes_view v.items)) → b ≡ both_of (flow m (nodes_view w.items))
+loop_is_by : (m : Mark) (n : CodeNode) (v w : Vec CodeNode) (a b : Both) (t : AllPaths) (c : Ways) → n.kind ≡ views.Loop v w → a ≡ both_of (flow m (nodes_view v.items)) → b ≡ both_of (flow m (nodes_view w.items))
     → c ≡ at (round_of (from a) (from b) (head_of (from a) (from b) t)).broken → c ≡ flow_node m (node_view n) t
 loop_is_by m n v w a b t c is e f g =
     rw (loop_is n v w is) (g ∙ ((λ j. at (round_of (from (e j)) (from (f j)) (head_of (from (e j)) (from (f j)) t)).broken) ∙ loop_by m n.place (nodes_view v.items) (nodes_view w.items) t))

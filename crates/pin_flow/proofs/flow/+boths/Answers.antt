@@ -1,6 +1,6 @@
 use Rattle.std.proofs.Common.{◌≡◌, true, refl, ap, ◌∙◌, inl, inr}
 use Rattle.struct_ir.specs.Views.{node_view, nodes_view}
-use Rattle.pin_flow.specs.Marks.{State, good, bad, flow}
+use Rattle.pin_flow.specs.Marks.{AllPaths, good, bad, flow}
 use Rattle.pin_flow.specs.Views.{mark_view, ways_view}
 use Rattle.pin_flow.specs.inner.Both.{both_of, from, both_view}
 use Rattle.pin_flow.proofs.FlowRows.{row_on, row_over, is_leaf, leaf_of}
@@ -22,7 +22,7 @@ both_in-loop-n-preserved t c =
     let x = c.n-item.result in
     let g = ways_view c.loop-n.both.good in
     let b = ways_view c.loop-n.both.bad in
-    let next = λ (t : State). ap (λ z. from z t) c.both_at-next.ensures ∙ from_node m (node_view x) t in
+    let next = λ (t : AllPaths). ap (λ z. from z t) c.both_at-next.ensures ∙ from_node m (node_view x) t in
     record {
       good = row_on m c.args.rows.now c.loop-n.n-index x g (ways_view c.one_behind.result) (ways_view c.from.result) _ c.loop-n-test.true c.n-item.is c.loop-n.invariant.good (c.from.ensures ∙ next g.on) c.one_behind.ensures;
       bad = row_on m c.args.rows.now c.loop-n.n-index x b (ways_view c.one_behind-in-loop-n.result) (ways_view c.from-in-loop-n.result) _ c.loop-n-test.true c.n-item.is c.loop-n.invariant.bad (c.from-in-loop-n.ensures ∙ next b.on) c.one_behind-in-loop-n.ensures;
