@@ -6,7 +6,7 @@
 #     which they are best read: by the steps of the table, and in a crate as they are come to.
 # A crate is described in the `//!` lines at the head of its src/lib.rt or src/main.rt: what it holds, then `Promises upward: ..` or
 # `Promises nothing upward: ..`, then `Stands on ..`; the list has the first of these, up to its first `.`, `:` or `;`, or up to a
-# comma before, where that is longer than 80 characters.
+# comma before, where that is longer than 84 characters.
 # Files of definitions are come to by the lines `use Rattle.CRATE.specs...` of others, those of this repository alone; of a type that
 # stands in src/ (a use of `specs.declared`) --read names the file.
 set -eu
@@ -61,7 +61,7 @@ def head_of(crate):
     if not parts:
         sys.exit(f"{path}: its head isn't what it holds, `Promises upward: ..` and `Stands on ..`")
     first = re.split(r"[.:;](?:\s|$)", parts[1])[0]
-    return first if len(first) <= 80 else first[:80].rpartition(",")[0] or first
+    return first if len(first) <= 84 else first[:84].rpartition(",")[0] or first
 
 # The list of the crates, in the order of these lines, with their titles, and behind them in that of crates.txt.
 def crate_rows(lines):
