@@ -4,8 +4,10 @@
 #![tactic(auto)]
 
 pub mod gather;
+pub mod homes;
 pub mod laws;
 pub mod marks;
 pub mod pairs;
 pub mod sets;
+pub mod used;
 pub mod words;

@@ -8,10 +8,12 @@ ghost use Rattle.pin_flow.specs.Slots.{slot_if, slot_in};
 ghost use Rattle.pin_flow.specs.Views.{act_is, looks_slot};
 ghost use Rattle.mark_sets.specs.Words.{has};
 ghost use Rattle.pin_frames.specs.inner.Place.{step_listing};
-ghost use Rattle.pin_frames.specs.inner.Together.{AreHomes, Tells, lives_in, numbers, slots_for, used_listed, used_listed_in, node_listing, node_keeps, AreKept, AreKeptIn, AreKeptLoop};
+ghost use Rattle.mark_sets.specs.Homes.{AreHomes, Tells, lives_in, node_keeps};
+ghost use Rattle.pin_frames.specs.inner.Together.{numbers, slots_for, used_listed, used_listed_in, node_listing, AreKept, AreKeptIn, AreKeptLoop};
 
-use crate::used::{Homes, head_used, is_home, used_act};
 use ak_words::NoMemory;
+use mark_sets::homes::{Homes, keeps};
+use mark_sets::used::{head_used, used_act};
 use mark_sets::words::{contains, united, word};
 use smallvec::SmallVec;
 use std::alloc::Global;
@@ -77,47 +79,6 @@ fn list_own(alloc: Global, slots: Vec<u32>, n: &mut Node) -> Result<(), NoMemory
         _ => {}
     }
     Ok(())
-}
-
-// Whether the register's slot is not in the set.
-fn is_unused(homes: &Homes, b: u32, set: &[u64]) -> bool
-    requires { AreHomes homes.now }
-    ensures { result ≡ true → (c i : ℕ) → slot_if homes.now.bases.items c ≡ Some i → has set.now i ≡ true → (c == b) ≡ false }
-{
-    match homes.marks.bit(b) {
-        Some(i) => !contains(set, i),
-        None => true,
-    }
-}
-
-fn is_unused_if(homes: &Homes, to: Option<u32>, set: &[u64]) -> bool
-    requires { AreHomes homes.now }
-    ensures { result ≡ true → (c i : ℕ) → slot_if homes.now.bases.items c ≡ Some i → has set.now i ≡ true → is_to c to ≡ false }
-{
-    match to {
-        Some(b) => is_unused(homes, b, set),
-        None => true,
-    }
-}
-
-fn looks_home(homes: &Homes, slot: u32, b: u32, set: &[u64]) -> bool
-    ensures { result ≡ true → (c : ℕ) → slot_if homes.now.bases.items c ≡ Some slot → has set.now slot ≡ true → (b == c) ≡ true }
-{
-    !contains(set, slot as usize) || is_home(homes, slot, b)
-}
-
-// Whether the act keeps the registers whose slots are in the set.
-fn keeps(homes: &Homes, n: &Node, set: &[u64]) -> bool
-    requires { AreHomes homes.now }
-    ensures { result ≡ true → (b i : ℕ) → slot_if homes.now.bases.items b ≡ Some i → has set.now i ≡ true → node_keeps i b (node_view n.now) ≡ true }
-{
-    match &n.kind {
-        NodeKind::Set(to, _) => is_unused(homes, *to, set),
-        NodeKind::Call(c) => is_unused_if(homes, c.to, set),
-        NodeKind::Step(s) => is_unused_if(homes, s.to, set),
-        NodeKind::Look(slot, b) => looks_home(homes, *slot, *b, set),
-        _ => true,
-    }
 }
 
 fn list_act(alloc: Global, homes: &Homes, n: &mut Node, on: Vec<u64>) -> Result<Walked, NoMemory>
@@ -254,16 +215,4 @@ fn list_loop(
         on: head,
         kept: both(first.kept, latch.kept),
     })
-}
-
-/// Whether the set has no numbers.
-pub(crate) fn is_empty(set: &[u64]) -> bool
-    ensures { result ≡ true → (i : ℕ) → has set.now i ≡ false }
-{
-    for word in set {
-        if *word != 0 {
-            return false;
-        }
-    }
-    true
 }
