@@ -7,3 +7,4 @@ pub mod Laws
 pub mod Views
 pub mod Added
 pub mod Homes
+pub mod Heads

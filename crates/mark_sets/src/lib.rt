@@ -4,6 +4,7 @@
 #![tactic(auto)]
 
 pub mod gather;
+pub mod heads;
 pub mod homes;
 pub mod laws;
 pub mod marks;

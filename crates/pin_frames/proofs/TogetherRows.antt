@@ -23,7 +23,7 @@ use Rattle.pin_frames.specs.inner.Place.{rest_lives, listed, none_held, none_lat
 use Rattle.mark_sets.specs.Homes.{Tells, lives_in, node_keeps}
 use Rattle.pin_frames.specs.inner.Together.{slots_for, used_listed, used_listed_in, node_listing, Kept, KeptIn, AreKept, AreKeptIn, AreKeptLoop}
 use Rattle.mark_sets.proofs.LiveRows.{live_start, live_act_at}
-use Rattle.mark_sets.proofs.Homes.{has_nothing}
+use Rattle.mark_sets.proofs.HomeSlots.{has_nothing}
 use Rattle.mark_sets.proofs.Told.{lives_told, in_latch, in_body}
 use Rattle.pin_frames.proofs.Kept.{used_same, in_same, listed_used}
 
