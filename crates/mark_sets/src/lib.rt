@@ -4,8 +4,11 @@
 #![tactic(auto)]
 
 pub mod gather;
+pub mod heads;
+pub mod homes;
 pub mod laws;
 pub mod marks;
 pub mod pairs;
 pub mod sets;
+pub mod used;
 pub mod words;

@@ -1,5 +1,5 @@
 use Rattle.std.proofs.Common.{◌≡◌, ◌<◌, ℕ, get_or}
-use Rattle.pin_frames.proofs.together.is_empty.Given as goal
+use Rattle.mark_sets.proofs.words.is_empty.Given as goal
 
 -- the words so far are 0
 abbrev pub invariant-loop-word : goal.invariant-loop-word

@@ -3,37 +3,15 @@
 ghost use Rattle.std.specs.Prelude.{◌≡◌, ◌≢◌, ◌==◌, ◌||◌, ◌&&◌, ℕ, Some, map, not, IfOk, OnOk};
 ghost use Rattle.struct_ir.specs.Views.{place_view, node_view, nodes_view};
 ghost use Rattle.pin_flow.specs.Live.{is_slot, has as has_use, uses, live, live_node, head_live};
-ghost use Rattle.pin_flow.specs.Slots.{slot_if};
 ghost use Rattle.pin_flow.specs.Views.{act_is, looks_slot};
 ghost use Rattle.mark_sets.specs.Words.{has};
-ghost use Rattle.pin_frames.specs.inner.Together.{Tells, lives_in};
+ghost use Rattle.mark_sets.specs.Homes.{Tells, lives_in};
 
+use crate::homes::{Homes, is_home};
+use crate::words::{insert, remove, united};
 use ak_words::NoMemory;
-use mark_sets::marks::Marks;
-use mark_sets::words::{insert, remove, united};
 use std::alloc::Global;
 use struct_ir::{Node, NodeKind, Place};
-
-/// The registers that have slots, in the order of their slots, and the slot of each by its number.
-#[derive(Drop)]
-pub struct Homes {
-    /// The registers.
-    pub bases: Vec<u32>,
-    /// Which bit of a set, and so which slot, is whose.
-    pub marks: Marks,
-}
-
-/// Whether the slot is the register's.
-pub(crate) fn is_home(homes: &Homes, slot: u32, b: u32) -> bool
-    ensures { (c : ℕ) → slot_if homes.now.bases.items c ≡ Some slot → result ≡ (b == c) }
-{
-    let at = slot as usize;
-    if at < homes.bases.len() {
-        b == homes.bases[at]
-    } else {
-        false
-    }
-}
 
 fn insert_if(set: &mut Vec<u64>, more: bool, slot: u32) -> Result<(), NoMemory>
     ensures there { OnOk result (has set.new.items slot ≡ (more || has set.old.items slot)) }
@@ -68,7 +46,11 @@ fn use_places(homes: &Homes, places: &[Place], set: &mut Vec<u64>) -> Result<(),
 }
 
 /// The set before an act, from the set behind it.
-pub(crate) fn used_act(homes: &Homes, n: &Node, on: Vec<u64>) -> Result<Vec<u64>, NoMemory>
+///
+/// # Errors
+///
+/// Only want of memory.
+pub fn used_act(homes: &Homes, n: &Node, on: Vec<u64>) -> Result<Vec<u64>, NoMemory>
     ensures { IfOk result (λ s. Tells homes.now.bases.items s.items (λ i b. act_is (uses i b) (node_view n.now) || (not (looks_slot i (node_view n.now)) && has on.items i))) }
 {
     let mut set = on;
@@ -138,7 +120,7 @@ fn used_node(
 ///
 /// Only want of memory.
 #[cycle(uses)]
-pub(crate) fn head_used(
+pub fn head_used(
     alloc: Global,
     homes: &Homes,
     body: &[Node],

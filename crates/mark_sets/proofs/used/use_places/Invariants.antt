@@ -3,7 +3,7 @@ use Rattle.struct_ir.specs.Views.{place_view}
 use Rattle.pin_flow.specs.Live.{has as has_use}
 use Rattle.pin_flow.specs.Slots.{slot_if}
 use Rattle.mark_sets.specs.Words.{has}
-use Rattle.pin_frames.proofs.used.use_places.Given as goal
+use Rattle.mark_sets.proofs.used.use_places.Given as goal
 
 -- with those that are left, all are in the set
 abbrev pub invariant-loop-a : goal.invariant-loop-a

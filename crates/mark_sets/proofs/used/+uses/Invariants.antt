@@ -3,8 +3,8 @@ use Rattle.struct_ir.specs.Structured.{row_size, node_size}
 use Rattle.struct_ir.specs.declared.code.Node.{Node as CodeNode}
 use Rattle.struct_ir.specs.Views.{node_view, nodes_view}
 use Rattle.pin_flow.specs.Live.{live}
-use Rattle.pin_frames.specs.inner.Together.{Tells, lives_in}
-use Rattle.pin_frames.proofs.used.+uses.Given as goal
+use Rattle.mark_sets.specs.Homes.{Tells, lives_in}
+use Rattle.mark_sets.proofs.used.+uses.Given as goal
 
 abbrev pub decreases-used_row : goal.decreases-used_row
 decreases-used_row l = row_size (nodes_view l.rows.now)

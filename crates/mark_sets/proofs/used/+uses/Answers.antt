@@ -6,11 +6,12 @@ use Rattle.pin_flow.specs.Live.{uses, live, live_node, head_live}
 use Rattle.pin_flow.specs.Views.{act_is, looks_slot}
 use Rattle.pin_flow.proofs.FlowRows.{is_plain, plain_of}
 use Rattle.mark_sets.specs.Words.{has}
-use Rattle.pin_frames.specs.inner.Together.{Tells, lives_in}
-use Rattle.pin_frames.proofs.Backwards.{step_back, size_back, if_size, loop_size}
-use Rattle.pin_frames.proofs.LiveRows.{live_start, live_more, live_if, live_head, live_act_at}
-use Rattle.pin_frames.proofs.TogetherRows.{has_nothing, head_by}
-use Rattle.pin_frames.proofs.used.+uses.Goals as goal
+use Rattle.mark_sets.specs.Homes.{Tells, lives_in}
+use Rattle.mark_sets.proofs.Backwards.{step_back, size_back, if_size, loop_size}
+use Rattle.mark_sets.proofs.LiveRows.{live_start, live_more, live_if, live_head, live_act_at}
+use Rattle.mark_sets.proofs.HomeSlots.{has_nothing}
+use Rattle.mark_sets.proofs.LiveRows.{head_by}
+use Rattle.mark_sets.proofs.used.+uses.Goals as goal
 
 pub used_row-row-init : goal.used_row-row-init
 used_row-row-init t c = ([], sym (append-nil c.args.rows.now), λ b i e. live_start i b (lives_in c.args.on.items c.args.out.now c.args.end.now i))

@@ -50,3 +50,11 @@ live_act_at slot b (loop p body latch) l e = absurd (let h : false ≡ true = e 
 live_act_at slot b (break_ p) l e = absurd (let h : false ≡ true = e in cc)
 live_act_at slot b (next_ p) l e = absurd (let h : false ≡ true = e in cc)
 live_act_at slot b (ret p x) l e = absurd (let h : false ≡ true = e in cc)
+
+-- the start of each round
+pub head_by : (i b : ℕ) (body latch : Nodes) (on top end start last s t : Bool) → s ≡ false → t ≡ false → end ≡ live i b latch (lives s on t) → start ≡ end → last ≡ end → top ≡ live i b body (lives start on last)
+    → top ≡ head_live i b body latch on
+unfolding head_live
+head_by i b body latch on top end start last s t es et ee ss ll e =
+    let first : end ≡ live i b latch (lives false on false) = ee ∙ (λ j. live i b latch (lives (es j) on (et j))) in
+    e ∙ ((λ j. live i b body (lives (ss j) on (ll j))) ∙ (λ j. live i b body (lives (first j) on (first j))))

@@ -1,6 +1,6 @@
 use Rattle.std.proofs.Common.{sym, ◌∙◌}
-use Rattle.pin_frames.proofs.SlotSets.{home_of, unused_some, unused_none}
-use Rattle.pin_frames.proofs.together.is_unused.Goals as goal
+use Rattle.mark_sets.proofs.HomeSlots.{home_of, unused_some, unused_none}
+use Rattle.mark_sets.proofs.homes.is_unused.Goals as goal
 
 pub returns-in-Some : goal.returns-in-Some
 returns-in-Some c = λ r d i e h.
