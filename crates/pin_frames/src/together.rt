@@ -60,10 +60,12 @@ fn numbers_in(alloc: Global, set: &[u64], count: usize) -> Result<Vec<u32>, NoMe
     Ok(out)
 }
 
-fn list_step(alloc: Global, slots: Vec<u32>, s: &mut StepNode) -> Result<(), NoMemory>
-    ensures { OnOk result (step_view s.new ≡ step_listing (step_view s.old) slots.items) }
+fn list_step(alloc: Global, set: &[u64], count: usize, s: &mut StepNode) -> Result<(), NoMemory>
+    requires { count < 2 ^ 32 }
+    ensures { OnOk result (step_view s.new ≡ step_listing (step_view s.old) (numbers (has set.now) 0 count)) }
 {
     s.slots = if s.action.may_wait() {
+        let slots = numbers_in(alloc, set, count)?;
         SmallVec::from_slice(alloc, &slots)?
     } else {
         SmallVec::new(alloc)
@@ -71,14 +73,15 @@ fn list_step(alloc: Global, slots: Vec<u32>, s: &mut StepNode) -> Result<(), NoM
     Ok(())
 }
 
-// Makes this the node's own list, if it has one.
-fn list_own(alloc: Global, slots: Vec<u32>, n: &mut Node) -> Result<(), NoMemory>
-    ensures { OnOk result (node_view n.new ≡ node_listing (node_view n.old) slots.items) }
+// Makes the numbers of the set the node's own list, if it has one.
+fn list_own(alloc: Global, set: &[u64], count: usize, n: &mut Node) -> Result<(), NoMemory>
+    requires { count < 2 ^ 32 }
+    ensures { OnOk result (node_view n.new ≡ node_listing (node_view n.old) (numbers (has set.now) 0 count)) }
 {
     match &mut n.kind {
-        NodeKind::Call(c) => c.slots = slots,
-        NodeKind::Step(s) => list_step(alloc, slots, s)?,
-        NodeKind::Safepoint(old) => *old = slots,
+        NodeKind::Call(c) => c.slots = numbers_in(alloc, set, count)?,
+        NodeKind::Step(s) => list_step(alloc, set, count, s)?,
+        NodeKind::Safepoint(old) => *old = numbers_in(alloc, set, count)?,
         _ => {}
     }
     Ok(())
@@ -92,8 +95,7 @@ fn list_act(alloc: Global, homes: &Homes, n: &mut Node, on: Vec<u64>) -> Result<
 {
     let kept = keeps(homes, n, &on);
     let set = used_act(homes, n, on)?;
-    let slots = numbers_in(alloc, &set, homes.bases.len())?;
-    list_own(alloc, slots, n)?;
+    list_own(alloc, &set, homes.bases.len(), n)?;
     Ok(Walked { on: set, kept })
 }
 
