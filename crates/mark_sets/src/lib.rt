@@ -10,4 +10,5 @@ pub mod marks;
 pub mod pairs;
 pub mod sets;
 pub mod used;
+pub mod walked;
 pub mod words;

@@ -18,7 +18,7 @@ use Rattle.pin_flow.specs.Live.{uses, Live, lives, live, live_node, head_live, l
 use Rattle.pin_flow.proofs.FlowRows.{is_plain}
 use Rattle.pin_flow.proofs.Bases.{slot_known}
 use Rattle.mark_sets.specs.Words.{has}
-use Rattle.pin_frames.specs.declared.together.Walked.{Walked}
+use Rattle.mark_sets.specs.declared.walked.Walked.{Walked}
 use Rattle.pin_frames.specs.inner.Place.{rest_lives, listed, none_held, none_later}
 use Rattle.mark_sets.specs.Homes.{Tells, lives_in, node_keeps}
 use Rattle.pin_frames.specs.inner.Together.{slots_for, used_listed, used_listed_in, node_listing, Kept, KeptIn, AreKept, AreKeptIn, AreKeptLoop}
@@ -165,12 +165,6 @@ act_kept i b (next_ p) l e k = absurd (let h : false ≡ true = e in cc)
 act_kept i b (ret p x) l e k = absurd (let h : false ≡ true = e in cc)
 
 module _ {E : Type 0} (r : Result Walked E) (bs on out end : List ℕ) (n' : Node) (n : CodeNode) where
-  pub act_told : IfOk r (λ w. Tells bs w.on.items (λ i b. act_is (uses i b) n' || (not (looks_slot i n') && has on i))) → n' ≡ node_view n → is_plain (node_view n) ≡ true
-      → IfOk r (λ w. Tells bs w.on.items (λ i b. live_node i b (node_view n) (lives_in on out end i)))
-  act_told f same l =
-      IfOk-weaker r (λ w. Tells bs w.on.items (λ i b. act_is (uses i b) n' || (not (looks_slot i n') && has on i))) (λ w. Tells bs w.on.items (λ i b. live_node i b (node_view n) (lives_in on out end i)))
-      (λ w g b i e. g b i e ∙ ((λ j. act_is (uses i b) (same j) || (not (looks_slot i (same j)) && has on i)) ∙ live_act_at i b (node_view n) (lives_in on out end i) l)) f
-
   pub act_keeps : IfOk r (λ w. w.kept ≡ true → (b i : ℕ) → slot_if bs b ≡ Some i → has on i ≡ true → node_keeps i b n' ≡ true) → n' ≡ node_view n → is_plain (node_view n) ≡ true
       → IfOk r (λ w. w.kept ≡ true → AreKeptIn bs (node_view n) on out end)
   act_keeps f same l =

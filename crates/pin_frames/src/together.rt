@@ -14,19 +14,11 @@ ghost use Rattle.pin_frames.specs.inner.Together.{numbers, slots_for, used_liste
 use ak_words::NoMemory;
 use mark_sets::homes::{Homes, keeps};
 use mark_sets::used::{head_used, used_act};
-use mark_sets::words::{contains, united, word};
+use mark_sets::walked::{Walked, both, both_walked, led_to};
+use mark_sets::words::{contains, word};
 use smallvec::SmallVec;
 use std::alloc::Global;
 use struct_ir::{Node, NodeKind, StepNode};
-
-/// What is used at or behind the start of a row, and whether each act keeps what is used behind it.
-#[derive(Drop)]
-pub struct Walked {
-    /// The slots.
-    pub on: Vec<u64>,
-    /// Whether they are kept: then each is available where it is used later.
-    pub kept: bool,
-}
 
 // The number, or where no bit of its word is set from it on, the first number of the next word.
 fn next_from(set: &[u64], i: usize) -> usize
@@ -92,33 +84,6 @@ fn list_act(alloc: Global, homes: &Homes, n: &mut Node, on: Vec<u64>) -> Result<
     let slots = numbers_in(alloc, &set, homes.bases.len())?;
     list_own(alloc, slots, n)?;
     Ok(Walked { on: set, kept })
-}
-
-fn both(a: bool, b: bool) -> bool
-    ensures { result ≡ (a && b) }
-{
-    a && b
-}
-
-// What either has found; all is kept if it is in both.
-fn both_walked(one: Walked, other: Walked) -> Walked
-    ensures used { (i : ℕ) → has result.on.items i ≡ (has one.on.items i || has other.on.items i) }
-    ensures kept { result.kept ≡ (one.kept && other.kept) }
-{
-    Walked {
-        on: united(one.on, other.on),
-        kept: both(one.kept, other.kept),
-    }
-}
-
-// Where control leaves a row: what is used is what is used where it goes, and nothing is left to keep.
-fn led_to(alloc: Global, on: &[u64]) -> Result<Walked, NoMemory>
-    ensures { IfOk result (λ w. w.on.items ≡ on.now) }
-{
-    Ok(Walked {
-        on: on.to_vec(alloc)?,
-        kept: true,
-    })
 }
 
 /// Makes the lists of the row: each has the slots that are used at its act or later.
