@@ -1,5 +1,5 @@
 //! Many marks at once, as sets.
-//! Promises upward: each mark's part of the sets is that mark's own state, and loops are gone through once.
+//! Promises upward: each mark's part of the sets is that mark's own state, and loops are gone through once; of each slot a set tells whether it is used later.
 //! Stands on the flow of marks.
 #![tactic(auto)]
 
