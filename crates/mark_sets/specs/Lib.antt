@@ -6,3 +6,4 @@ pub mod Gather
 pub mod Laws
 pub mod Views
 pub mod Added
+pub mod Homes

@@ -12,24 +12,8 @@ use Rattle.pin_flow.specs.Slots.{accesses, bases_below, IsIn, AreApart}
 use Rattle.pin_flow.proofs.Registers.{in_parts, base_below}
 use Rattle.pin_flow.proofs.Strip.{by_bool}
 use Rattle.pin_frames.specs.inner.Place.{stop, act_seats, seats, seated, seated_in, wanted, act_listing, list_for, heads, turns, on_states, rest_lives, listed, listed_in}
-use Rattle.pin_frames.specs.inner.Together.{AreOnce}
+use Rattle.mark_sets.specs.Homes.{AreOnce}
 use Rattle.pin_frames.proofs.Exact.{list_only}
-
--- ---- each base stands once among the bases
-
-once_more : (bs : List ℕ) (c : ℕ) → AreOnce bs → (IsIn bs c → ⊥) → AreOnce (bs ++ (c ∷ []))
-once_more [] c o h = ((λ i. i), tt)
-once_more (b ∷ bs) c o h = (
-  (λ i. elim (in_parts bs c b i) [ inl e ↦ h (inl (sym e)) | inr j ↦ o.0 j ]),
-  once_more bs c o.1 (λ i. h (inr i)),
-)
-
-pub bases_once : (n : ℕ) (ns : Nodes) → AreOnce (bases_below n ns)
-bases_once zero ns = tt
-bases_once (suc n) ns =
-    by_bool (λ x. AreOnce (if x then bases_below n ns ++ (n ∷ []) else bases_below n ns)) (some_act (accesses n) ns)
-    (λ e. once_more (bases_below n ns) n (bases_once n ns) (λ i. let h = base_below n ns n i in absurd (omega (arith, h))))
-    (λ e. bases_once n ns)
 
 -- ---- lists
 

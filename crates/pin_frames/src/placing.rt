@@ -14,16 +14,16 @@ ghost use Rattle.struct_ir.specs.Safe.{EveryFunc, IsPinSafe};
 ghost use Rattle.pin_flow.specs.Funcs.{IsCovered, IsExact, IsExactAtPoints, IsHoisted, IsHoistedAtPoints, IsHoistedThroughout};
 ghost use Rattle.pin_flow.specs.Slots.{HasOwnSlots, slot_if, slot_in};
 ghost use Rattle.pin_frames.specs.inner.Place.{seated, cleared, listed, none_held, none_later, listed_one, listed_for, listed_each, func_placed, ir_placed};
-ghost use Rattle.pin_frames.specs.inner.Together.{AreOnce, AreHomes};
+ghost use Rattle.mark_sets.specs.Homes.{AreOnce, AreHomes};
 
 use crate::listing::list_row;
 use crate::lives::lives_of;
 use crate::seating::seat_row;
-use crate::together::{is_empty, list_row as list_all};
+use crate::together::list_row as list_all;
 use crate::unlisted::free_row;
-use crate::used::Homes;
 use ak_words::NoMemory;
-use mark_sets::marks::held_marks;
+use mark_sets::homes::{Homes, homes_of};
+use mark_sets::words::is_empty;
 use pin_flow::programs::copy_ir;
 use pin_flow::rows::copy_row;
 use pin_flow::slots::{bases_of, slot_of};
@@ -123,8 +123,7 @@ fn list_bases(alloc: Global, bases: Vec<u32>, rows: Vec<Node>) -> Result<Vec<Nod
     ensures { IfOk result (λ v. nodes_view v.items ≡ listed_each (slot_if bases.items) bases.items (seated (cleared (nodes_view rows.items)) no_nodes)) }
 {
     let code = seat_row(alloc, rows)?;
-    let marks = held_marks(alloc, &bases)?;
-    let homes = Homes { bases, marks };
+    let homes = homes_of(alloc, bases)?;
     match list_together(alloc, &homes, &code)? {
         Some(done) => Ok(done),
         None => list_in_turn(alloc, &homes.bases, code),

@@ -8,23 +8,17 @@ ghost use Rattle.pin_flow.specs.Slots.{slot_if, slot_in};
 ghost use Rattle.pin_flow.specs.Views.{act_is, looks_slot};
 ghost use Rattle.mark_sets.specs.Words.{has};
 ghost use Rattle.pin_frames.specs.inner.Place.{step_listing};
-ghost use Rattle.pin_frames.specs.inner.Together.{AreHomes, Tells, lives_in, numbers, slots_for, used_listed, used_listed_in, node_listing, node_keeps, AreKept, AreKeptIn, AreKeptLoop};
+ghost use Rattle.mark_sets.specs.Homes.{AreHomes, Tells, lives_in, node_keeps};
+ghost use Rattle.pin_frames.specs.inner.Together.{numbers, slots_for, used_listed, used_listed_in, node_listing, AreKept, AreKeptIn, AreKeptLoop};
 
-use crate::used::{Homes, head_used, is_home, used_act};
 use ak_words::NoMemory;
-use mark_sets::words::{contains, united, word};
+use mark_sets::homes::{Homes, keeps};
+use mark_sets::used::{head_used, used_act};
+use mark_sets::walked::{Walked, both, both_walked, led_to};
+use mark_sets::words::{contains, word};
 use smallvec::SmallVec;
 use std::alloc::Global;
 use struct_ir::{Node, NodeKind, StepNode};
-
-/// What is used at or behind the start of a row, and whether each act keeps what is used behind it.
-#[derive(Drop)]
-pub struct Walked {
-    /// The slots.
-    pub on: Vec<u64>,
-    /// Whether they are kept: then each is available where it is used later.
-    pub kept: bool,
-}
 
 // The number, or where no bit of its word is set from it on, the first number of the next word.
 fn next_from(set: &[u64], i: usize) -> usize
@@ -79,47 +73,6 @@ fn list_own(alloc: Global, slots: Vec<u32>, n: &mut Node) -> Result<(), NoMemory
     Ok(())
 }
 
-// Whether the register's slot is not in the set.
-fn is_unused(homes: &Homes, b: u32, set: &[u64]) -> bool
-    requires { AreHomes homes.now }
-    ensures { result ≡ true → (c i : ℕ) → slot_if homes.now.bases.items c ≡ Some i → has set.now i ≡ true → (c == b) ≡ false }
-{
-    match homes.marks.bit(b) {
-        Some(i) => !contains(set, i),
-        None => true,
-    }
-}
-
-fn is_unused_if(homes: &Homes, to: Option<u32>, set: &[u64]) -> bool
-    requires { AreHomes homes.now }
-    ensures { result ≡ true → (c i : ℕ) → slot_if homes.now.bases.items c ≡ Some i → has set.now i ≡ true → is_to c to ≡ false }
-{
-    match to {
-        Some(b) => is_unused(homes, b, set),
-        None => true,
-    }
-}
-
-fn looks_home(homes: &Homes, slot: u32, b: u32, set: &[u64]) -> bool
-    ensures { result ≡ true → (c : ℕ) → slot_if homes.now.bases.items c ≡ Some slot → has set.now slot ≡ true → (b == c) ≡ true }
-{
-    !contains(set, slot as usize) || is_home(homes, slot, b)
-}
-
-// Whether the act keeps the registers whose slots are in the set.
-fn keeps(homes: &Homes, n: &Node, set: &[u64]) -> bool
-    requires { AreHomes homes.now }
-    ensures { result ≡ true → (b i : ℕ) → slot_if homes.now.bases.items b ≡ Some i → has set.now i ≡ true → node_keeps i b (node_view n.now) ≡ true }
-{
-    match &n.kind {
-        NodeKind::Set(to, _) => is_unused(homes, *to, set),
-        NodeKind::Call(c) => is_unused_if(homes, c.to, set),
-        NodeKind::Step(s) => is_unused_if(homes, s.to, set),
-        NodeKind::Look(slot, b) => looks_home(homes, *slot, *b, set),
-        _ => true,
-    }
-}
-
 fn list_act(alloc: Global, homes: &Homes, n: &mut Node, on: Vec<u64>) -> Result<Walked, NoMemory>
     requires { AreHomes homes.now }
     ensures used { IfOk result (λ w. Tells homes.now.bases.items w.on.items (λ i b. act_is (uses i b) (node_view n.old) || (not (looks_slot i (node_view n.old)) && has on.items i))) }
@@ -131,33 +84,6 @@ fn list_act(alloc: Global, homes: &Homes, n: &mut Node, on: Vec<u64>) -> Result<
     let slots = numbers_in(alloc, &set, homes.bases.len())?;
     list_own(alloc, slots, n)?;
     Ok(Walked { on: set, kept })
-}
-
-fn both(a: bool, b: bool) -> bool
-    ensures { result ≡ (a && b) }
-{
-    a && b
-}
-
-// What either has found; all is kept if it is in both.
-fn both_walked(one: Walked, other: Walked) -> Walked
-    ensures used { (i : ℕ) → has result.on.items i ≡ (has one.on.items i || has other.on.items i) }
-    ensures kept { result.kept ≡ (one.kept && other.kept) }
-{
-    Walked {
-        on: united(one.on, other.on),
-        kept: both(one.kept, other.kept),
-    }
-}
-
-// Where control leaves a row: what is used is what is used where it goes, and nothing is left to keep.
-fn led_to(alloc: Global, on: &[u64]) -> Result<Walked, NoMemory>
-    ensures { IfOk result (λ w. w.on.items ≡ on.now) }
-{
-    Ok(Walked {
-        on: on.to_vec(alloc)?,
-        kept: true,
-    })
 }
 
 /// Makes the lists of the row: each has the slots that are used at its act or later.
@@ -254,16 +180,4 @@ fn list_loop(
         on: head,
         kept: both(first.kept, latch.kept),
     })
-}
-
-/// Whether the set has no numbers.
-pub(crate) fn is_empty(set: &[u64]) -> bool
-    ensures { result ≡ true → (i : ℕ) → has set.now i ≡ false }
-{
-    for word in set {
-        if *word != 0 {
-            return false;
-        }
-    }
-    true
 }

@@ -4,18 +4,10 @@ use Rattle.struct_ir.specs.Nodes.{no_nodes}
 use Rattle.struct_ir.specs.Views.{nodes_view}
 use Rattle.pin_flow.specs.Slots.{slot_if, slot_in}
 use Rattle.pin_frames.specs.inner.Place.{cleared, seated, listed, listed_each, none_held, none_later}
-use Rattle.pin_frames.specs.inner.Together.{AreHomes}
+use Rattle.mark_sets.specs.Homes.{AreHomes}
 use Rattle.pin_frames.proofs.OneByOne.{each_is_placed}
 use Rattle.pin_frames.proofs.Seated.{row_alone}
 use Rattle.pin_frames.proofs.placing.list_bases.Goals as goal
-
-pub list_together-requires : goal.list_together-requires
-unfolding AreHomes
-list_together-requires c = record {
-  few = c.requires.few;
-  once = c.requires.once;
-  bits = λ b. c.in_ok-marks.ensures.bits b ∙ ap (λ l. slot_if l b) c.deref.ensures.value;
-}
 
 pub returns-in-Some : goal.returns-in-Some
 returns-in-Some c =

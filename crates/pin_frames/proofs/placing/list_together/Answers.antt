@@ -6,7 +6,8 @@ use Rattle.pin_flow.specs.Slots.{slot_in}
 use Rattle.pin_flow.proofs.InPlace.{row_within}
 use Rattle.mark_sets.specs.Words.{has}
 use Rattle.pin_frames.specs.inner.Place.{listed, none_held, none_later}
-use Rattle.pin_frames.specs.inner.Together.{Tells, lives_in, used_listed, AreKept}
+use Rattle.mark_sets.specs.Homes.{Tells, lives_in}
+use Rattle.pin_frames.specs.inner.Together.{used_listed, AreKept}
 use Rattle.pin_frames.proofs.TogetherRows.{whole_listed}
 use Rattle.pin_frames.proofs.placing.list_together.Goals as goal
 

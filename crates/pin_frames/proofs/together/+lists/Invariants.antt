@@ -4,7 +4,8 @@ use Rattle.struct_ir.specs.declared.code.Node.{Node as CodeNode}
 use Rattle.struct_ir.specs.Views.{node_view, nodes_view}
 use Rattle.pin_flow.specs.Live.{live}
 use Rattle.pin_flow.specs.Slots.{slot_in}
-use Rattle.pin_frames.specs.inner.Together.{Tells, lives_in, used_listed, AreKept}
+use Rattle.mark_sets.specs.Homes.{Tells, lives_in}
+use Rattle.pin_frames.specs.inner.Together.{used_listed, AreKept}
 use Rattle.pin_frames.proofs.together.+lists.Given as goal
 
 abbrev pub decreases-list_row : goal.decreases-list_row

@@ -5,7 +5,8 @@ use Rattle.pin_flow.specs.Live.{uses}
 use Rattle.pin_flow.specs.Views.{act_is, looks_slot}
 use Rattle.mark_sets.specs.Words.{has}
 use Rattle.pin_frames.specs.inner.Together.{numbers, node_listing}
-use Rattle.pin_frames.proofs.SlotSets.{home_of, numbers_are}
+use Rattle.mark_sets.proofs.Homes.{home_of}
+use Rattle.pin_frames.proofs.SlotSets.{numbers_are}
 use Rattle.pin_frames.proofs.together.list_act.Goals as goal
 
 pub numbers_in-requires : goal.numbers_in-requires
