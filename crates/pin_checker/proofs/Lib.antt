@@ -10,3 +10,4 @@ pub mod Shown
 pub mod Main
 pub mod WorkedRows
 pub mod Uses
+pub mod KeptRows
