@@ -1,12 +1,26 @@
 -- What is used at the start of loops' rounds, as the program gathers it.
-use Rattle.std.proofs.Common.{◌≡◌, ◌≢◌, ◌<◌, ◌≤◌, ◌+◌, ℕ, zero, suc, Bool, true, false, length, set, drop, get_or, List, [], ◌∷◌, ◌++◌, refl, sym, ap, ◌∙◌, subst, arith, length-append}
+use Rattle.std.proofs.Common.{◌≡◌, ◌≢◌, ◌<◌, ◌≤◌, ◌+◌, ℕ, zero, suc, Bool, true, false, length, set, drop, get_or, List, [], ◌∷◌, ◌++◌, refl, sym, ap, ◌∙◌, subst, if◌then◌else◌, arith, length-append}
 use Rattle.std.proofs.lemmas.List.{length-set}
 use Rattle.struct_ir.specs.declared.code.Node.{Node as CodeNode}
 use Rattle.struct_ir.specs.Nodes.{Node, plain, if_, loop, break_, next_, ret, Nodes, no_nodes, more_nodes}
 use Rattle.struct_ir.specs.Views.{node_view, nodes_view}
 use Rattle.mark_sets.specs.declared.heads.Later.{Later}
 use Rattle.mark_sets.specs.Added.{loops, loops_in}
+use Rattle.mark_sets.specs.Words.{has}
+use Rattle.mark_sets.proofs.HomeSlots.{has_nothing}
 use Rattle.mark_sets.specs.Heads.{later_in, head_at, IsHead, AreHeads, AreHeadsIn, HasHeads, HasHeadsIn, HasHeadsWithin}
+
+-- ---- behind the loop around
+
+-- nothing is used
+pub later_none : (none all : List ℕ) → none ≡ [] → all ≡ [] → (t : Bool) (i : ℕ) → (if t then has all i else has none i) ≡ false
+later_none none all n a true i = ap (λ l. has l i) a ∙ has_nothing i
+later_none none all n a false i = ap (λ l. has l i) n ∙ has_nothing i
+
+-- what is used is just what is there
+pub later_all : (none all : List ℕ) → none ≡ [] → (t : Bool) (i : ℕ) → has all i ≡ true → (if t then has all i else has none i) ≡ t
+later_all none all n true i h = h
+later_all none all n false i h = ap (λ l. has l i) n ∙ has_nothing i
 
 -- ---- heads by their numbers
 
@@ -156,8 +170,8 @@ heads_within bs old now new body latch a b =
     record {
       long = omega (arith, al, bl);
       before = λ j on i h. b.before j on i (omega (arith, h, al)) ∙ a.before j on i h;
-      latch = row_same bs now new (length old) latch (λ j on i ge lt. b.before j on i (omega (arith, lt, al))) a.heads;
-      body = subst (λ k. AreHeads bs new k body) al b.heads;
+      in_latch = row_same bs now new (length old) latch (λ j on i ge lt. b.before j on i (omega (arith, lt, al))) a.heads;
+      in_body = subst (λ k. AreHeads bs new k body) al b.heads;
     }
 
 -- a loop: its head is put behind the others, and filled in once the step and the body are gone through
@@ -176,7 +190,7 @@ heads_loop bs old first second empty head p body latch e a is =
           ∙ (a.before j on i (omega (arith, h, fl)) ∙ (ap (λ l. head_at l j on i) e ∙ head_past old empty j on i h));
       heads = (
         λ b i on h. head_here second head (length old) on i (omega (arith, al, fl)) ∙ is b i on h,
-        same (suc (length old)) (omega arith) latch (subst (λ k. AreHeads bs second k latch) (omega (arith, fl)) a.latch),
-        same (suc (length old) + loops latch) (omega arith) body (subst (λ k. AreHeads bs second k body) (omega (arith, fl)) a.body),
+        same (suc (length old)) (omega arith) latch (subst (λ k. AreHeads bs second k latch) (omega (arith, fl)) a.in_latch),
+        same (suc (length old) + loops latch) (omega arith) body (subst (λ k. AreHeads bs second k body) (omega (arith, fl)) a.in_body),
       );
     }

@@ -68,5 +68,5 @@ pub record HasHeadsIn (bs : List ℕ) (old new : List Later) (n : Node) : Type 0
 pub record HasHeadsWithin (bs : List ℕ) (old new : List Later) (body latch : Nodes) : Type 0 where
   pub long : length new ≡ length old + loops latch + loops body
   pub before : (at : ℕ) (on : Bool) (i : ℕ) → at < length old → head_at new at on i ≡ head_at old at on i
-  pub latch : AreHeads bs new (length old) latch
-  pub body : AreHeads bs new (length old + loops latch) body
+  pub in_latch : AreHeads bs new (length old) latch
+  pub in_body : AreHeads bs new (length old + loops latch) body

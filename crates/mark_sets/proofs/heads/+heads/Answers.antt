@@ -21,7 +21,7 @@ always (Err e) p = tt
 
 act_by : {E : Type 0} (r : Result Later E) (bs : List ℕ) (n : CodeNode) (on out end : Later) → is_plain (node_view n) ≡ true → IfOk r (λ l. TellsBy bs l (λ i b all. act_is (uses i b) (node_view n) || (not (looks_slot i (node_view n)) && later_in on all i)))
     → IfOk r (λ l. TellsBy bs l (λ i b all. live_node i b (node_view n) (lives_by on out end i all)))
-act_by (Ok l) bs n on out end p f b i all e = f b i all e ∙ live_act_at i b (node_view n) (lives_by on out end i all) p
+act_by (Ok l) bs n on out end p f = λ b i all e. f b i all e ∙ live_act_at i b (node_view n) (lives_by on out end i all) p
 act_by (Err x) bs n on out end p f = tt
 
 pub heads_row-row-init : goal.heads_row-row-init
@@ -44,12 +44,12 @@ heads_row-row-preserved t c = (
 pub heads_node-heads_row-requires : goal.heads_node-heads_row-requires
 heads_node-heads_row-requires t c =
     let e = if_size c.args.n.now c.in-If.field-0 c.in-If.one c.in-If.other c.in-If.is in
-    rw c.deref-in-If.ensures.value (omega (arith, e), tt)
+    rw c.deref.ensures.value (omega (arith, e), tt)
 
 pub heads_node-heads_row-requires-in-If : goal.heads_node-heads_row-requires-in-If
 heads_node-heads_row-requires-in-If t c =
     let e = if_size c.args.n.now c.in-If.field-0 c.in-If.one c.in-If.other c.in-If.is in
-    rw c.deref-in-If-2.ensures.value (omega (arith, e), tt)
+    rw c.deref-in-If.ensures.value (omega (arith, e), tt)
 
 pub heads_node-heads_loop-requires : goal.heads_node-heads_loop-requires
 heads_node-heads_loop-requires t c =
@@ -62,8 +62,8 @@ heads_node-returns-in_ok-second-in-If-clause-used t c = λ b i all e.
     let end = c.args.end.now in
     live_if i b c.args.n.now c.in-If.field-0 c.in-If.one c.in-If.other (lives_by c.args.on out end i all) (later_in c.in_ok-first-in-If.first all i) (later_in c.in_ok-second-in-If.second all i) (later_in c.either.result all i)
     c.in-If.is
-    (c.in_ok-first-in-If.ensures.used b i all e ∙ (λ j. live i b (nodes_view (c.deref-in-If.ensures.value j)) (lives (c.in_ok-start-in-If.ensures all i j) (later_in out all i) (later_in end all i))))
-    (c.in_ok-second-in-If.ensures.used b i all e ∙ ap (λ l. live i b (nodes_view l) (lives_by c.args.on out end i all)) c.deref-in-If-2.ensures.value) (c.either.ensures all i)
+    (c.in_ok-first-in-If.ensures.used b i all e ∙ (λ j. live i b (nodes_view (c.deref.ensures.value j)) (lives (c.in_ok-start-in-If.ensures all i j) (later_in out all i) (later_in end all i))))
+    (c.in_ok-second-in-If.ensures.used b i all e ∙ ap (λ l. live i b (nodes_view l) (lives_by c.args.on out end i all)) c.deref-in-If.ensures.value) (c.either.ensures all i)
 
 pub heads_node-returns-in_ok-second-in-If-clause-heads : goal.heads_node-returns-in_ok-second-in-If-clause-heads
 heads_node-returns-in_ok-second-in-If-clause-heads t c =
@@ -72,8 +72,8 @@ heads_node-returns-in_ok-second-in-If-clause-heads t c =
     let old = c.args.heads.now.items in
     let now = c.heads_row.new.heads.items in
     let new = c.heads_row-in-If.new.heads.items in
-    let a = subst (λ l. HasHeads bs old now (nodes_view l)) c.deref-in-If.ensures.value c.in_ok-first-in-If.ensures.heads in
-    let b = subst (λ l. HasHeads bs now new (nodes_view l)) c.deref-in-If-2.ensures.value c.in_ok-second-in-If.ensures.heads in
+    let a = subst (λ l. HasHeads bs old now (nodes_view l)) c.deref.ensures.value c.in_ok-first-in-If.ensures.heads in
+    let b = subst (λ l. HasHeads bs now new (nodes_view l)) c.deref-in-If.ensures.value c.in_ok-second-in-If.ensures.heads in
     subst (λ y. HasHeadsIn bs old new y) (sym (if_is n c.in-If.field-0 c.in-If.one c.in-If.other c.in-If.is))
     (heads_if bs old now new n.place c.in-If.field-0 (nodes_view c.in-If.one.items) (nodes_view c.in-If.other.items) a b)
 
