@@ -8,7 +8,7 @@ pub mod Gathering
 pub mod Rounds
 pub mod AddedRows
 pub mod Bits
-pub mod Homes
+pub mod HomeSlots
 pub mod LiveRows
 pub mod Backwards
 pub mod Told

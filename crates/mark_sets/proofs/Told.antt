@@ -6,7 +6,7 @@ use Rattle.struct_ir.specs.declared.code.Node.{Node as CodeNode}
 use Rattle.struct_ir.specs.Views.{node_view}
 use Rattle.pin_flow.specs.Views.{act_is, looks_slot}
 use Rattle.pin_flow.proofs.FlowRows.{is_plain}
-use Rattle.mark_sets.specs.declared.walked.Walked.{Walked}
+use Rattle.mark_sets.specs.declared.from_behind.Walked.{Walked}
 use Rattle.mark_sets.proofs.LiveRows.{live_act_at}
 use Rattle.struct_ir.specs.Nodes.{Node, Nodes}
 use Rattle.pin_flow.specs.Slots.{slot_if}

@@ -3,6 +3,7 @@
 //! Stands on the flow of marks.
 #![tactic(auto)]
 
+pub mod from_behind;
 pub mod gather;
 pub mod homes;
 pub mod laws;
@@ -10,5 +11,4 @@ pub mod marks;
 pub mod pairs;
 pub mod sets;
 pub mod used;
-pub mod walked;
 pub mod words;

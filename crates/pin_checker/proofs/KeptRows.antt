@@ -21,8 +21,8 @@ use Rattle.pin_flow.proofs.FlowRows.{is_plain}
 use Rattle.pin_flow.proofs.Strip.{by_bool}
 use Rattle.mark_sets.specs.Words.{has}
 use Rattle.mark_sets.specs.Homes.{Tells, lives_in, node_keeps, keeps as holds}
-use Rattle.mark_sets.specs.declared.walked.Walked.{Walked}
-use Rattle.mark_sets.proofs.Homes.{has_nothing}
+use Rattle.mark_sets.specs.declared.from_behind.Walked.{Walked}
+use Rattle.mark_sets.proofs.HomeSlots.{has_nothing}
 use Rattle.mark_sets.proofs.Told.{lives_told, in_latch, in_body}
 use Rattle.pin_checker.specs.declared.pair.Pair.{Pair}
 use Rattle.pin_checker.specs.inner.Reports.{is_pair, has_pair}

@@ -31,7 +31,7 @@ use Rattle.pin_frames.proofs.Hoists.{looks_listing, hoisted_cleared, throughout_
 use Rattle.pin_frames.proofs.OneByOne.{cleared_is, each_is_placed}
 use Rattle.pin_frames.proofs.Placed as placing
 use Rattle.pin_flow.proofs.Registers.{some_below}
-use Rattle.mark_sets.proofs.Homes.{bases_once}
+use Rattle.mark_sets.proofs.HomeSlots.{bases_once}
 use Rattle.pin_frames.proofs.Valid.{valid_listed, valid_seated}
 
 pub each_end : (s : ℕ → Option ℕ) (bs : List ℕ) (i : ℕ) (out all : Nodes) → length bs ≤ i → listed_each s (drop i bs) out ≡ all → out ≡ all

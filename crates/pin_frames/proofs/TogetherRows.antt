@@ -18,12 +18,12 @@ use Rattle.pin_flow.specs.Live.{uses, Live, lives, live, live_node, head_live, l
 use Rattle.pin_flow.proofs.FlowRows.{is_plain}
 use Rattle.pin_flow.proofs.Bases.{slot_known}
 use Rattle.mark_sets.specs.Words.{has}
-use Rattle.mark_sets.specs.declared.walked.Walked.{Walked}
+use Rattle.mark_sets.specs.declared.from_behind.Walked.{Walked}
 use Rattle.pin_frames.specs.inner.Place.{rest_lives, listed, none_held, none_later}
 use Rattle.mark_sets.specs.Homes.{Tells, lives_in, node_keeps}
 use Rattle.pin_frames.specs.inner.Together.{slots_for, used_listed, used_listed_in, node_listing, Kept, KeptIn, AreKept, AreKeptIn, AreKeptLoop}
 use Rattle.mark_sets.proofs.LiveRows.{live_start, live_act_at}
-use Rattle.mark_sets.proofs.Homes.{has_nothing}
+use Rattle.mark_sets.proofs.HomeSlots.{has_nothing}
 use Rattle.mark_sets.proofs.Told.{lives_told, in_latch, in_body}
 use Rattle.pin_frames.proofs.Kept.{used_same, in_same, listed_used}
 

@@ -14,7 +14,7 @@ ghost use Rattle.pin_frames.specs.inner.Together.{numbers, slots_for, used_liste
 use ak_words::NoMemory;
 use mark_sets::homes::{Homes, keeps};
 use mark_sets::used::{head_used, used_act};
-use mark_sets::walked::{Walked, both, both_walked, led_to};
+use mark_sets::from_behind::{Walked, both, both_walked, led_to};
 use mark_sets::words::{contains, word};
 use smallvec::SmallVec;
 use std::alloc::Global;

@@ -1,5 +1,5 @@
 use Rattle.std.proofs.Common.{nat_eq, ap, ◌∙◌, arith}
-use Rattle.mark_sets.proofs.Homes.{slot_found}
+use Rattle.mark_sets.proofs.HomeSlots.{slot_found}
 use Rattle.mark_sets.proofs.homes.is_home.Goals as goal
 
 pub returns-then-at-len : goal.returns-then-at-len

@@ -1,5 +1,5 @@
 use Rattle.std.proofs.Common.{sym, ◌∙◌}
-use Rattle.mark_sets.proofs.Homes.{home_of, unused_some, unused_none}
+use Rattle.mark_sets.proofs.HomeSlots.{home_of, unused_some, unused_none}
 use Rattle.mark_sets.proofs.homes.is_unused.Goals as goal
 
 pub returns-in-Some : goal.returns-in-Some

@@ -9,7 +9,7 @@ use Rattle.mark_sets.specs.Words.{has}
 use Rattle.mark_sets.specs.Homes.{Tells, lives_in}
 use Rattle.mark_sets.proofs.Backwards.{step_back, size_back, if_size, loop_size}
 use Rattle.mark_sets.proofs.LiveRows.{live_start, live_more, live_if, live_head, live_act_at}
-use Rattle.mark_sets.proofs.Homes.{has_nothing}
+use Rattle.mark_sets.proofs.HomeSlots.{has_nothing}
 use Rattle.mark_sets.proofs.LiveRows.{head_by}
 use Rattle.mark_sets.proofs.used.+uses.Goals as goal
 

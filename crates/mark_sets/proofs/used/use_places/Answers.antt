@@ -1,6 +1,6 @@
 use Rattle.std.proofs.Common.{arith}
 use Rattle.mark_sets.specs.Words.{has}
-use Rattle.mark_sets.proofs.Homes.{use_more}
+use Rattle.mark_sets.proofs.HomeSlots.{use_more}
 use Rattle.mark_sets.proofs.used.use_places.Goals as goal
 
 pub loop-a-preserved : goal.loop-a-preserved

@@ -1,5 +1,5 @@
 use Rattle.std.proofs.Common.{arith}
-use Rattle.mark_sets.proofs.Homes.{none_in}
+use Rattle.mark_sets.proofs.HomeSlots.{none_in}
 use Rattle.mark_sets.proofs.words.is_empty.Goals as goal
 
 pub returns : goal.returns

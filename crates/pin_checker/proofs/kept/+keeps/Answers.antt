@@ -8,7 +8,7 @@ use Rattle.pin_flow.proofs.FlowRows.{is_plain, plain_of}
 use Rattle.mark_sets.specs.Words.{has}
 use Rattle.mark_sets.specs.Homes.{Tells, lives_in}
 use Rattle.mark_sets.proofs.Backwards.{step_back, size_back, if_size, loop_size}
-use Rattle.mark_sets.proofs.Homes.{has_nothing}
+use Rattle.mark_sets.proofs.HomeSlots.{has_nothing}
 use Rattle.mark_sets.proofs.LiveRows.{live_start, live_more, live_if, live_head}
 use Rattle.mark_sets.proofs.Told.{act_told}
 use Rattle.pin_checker.specs.inner.Uses.{AreKept, AreKeptIn, AreKeptLoop}

@@ -3,7 +3,7 @@ use Rattle.struct_ir.specs.Views.{nodes_view}
 use Rattle.pin_flow.specs.Live.{live}
 use Rattle.mark_sets.specs.Words.{has}
 use Rattle.mark_sets.specs.Homes.{AreOnce, Tells, lives_in}
-use Rattle.mark_sets.proofs.Homes.{bases_once}
+use Rattle.mark_sets.proofs.HomeSlots.{bases_once}
 use Rattle.pin_checker.specs.inner.Uses.{AreKept}
 use Rattle.pin_checker.proofs.KeptRows.{whole_kept}
 use Rattle.pin_checker.proofs.kept.are_kept.Goals as goal

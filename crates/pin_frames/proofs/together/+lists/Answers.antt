@@ -17,7 +17,7 @@ use Rattle.mark_sets.specs.Homes.{Tells, lives_in}
 use Rattle.pin_frames.specs.inner.Together.{used_listed, used_listed_in, AreKept, AreKeptIn, AreKeptLoop}
 use Rattle.mark_sets.proofs.Backwards.{if_size, loop_size}
 use Rattle.mark_sets.proofs.LiveRows.{live_more, live_if, live_head}
-use Rattle.mark_sets.proofs.Homes.{has_nothing}
+use Rattle.mark_sets.proofs.HomeSlots.{has_nothing}
 use Rattle.pin_frames.proofs.TogetherRows.{same_item, put_item, rest_is, size_at, start_rows, start_made, start_used, start_kept, node_more, kept_more, if_done, if_kept, body_done, latch_done, both_kept, loop_done, loop_kept, act_keeps, way_kept, kept_at}
 use Rattle.mark_sets.proofs.Told.{act_told}
 use Rattle.pin_frames.proofs.together.+lists.Goals as goal

@@ -5,7 +5,7 @@ use Rattle.pin_flow.specs.Live.{uses}
 use Rattle.pin_flow.specs.Views.{act_is, looks_slot}
 use Rattle.mark_sets.specs.Words.{has}
 use Rattle.pin_frames.specs.inner.Together.{numbers, node_listing}
-use Rattle.mark_sets.proofs.Homes.{home_of}
+use Rattle.mark_sets.proofs.HomeSlots.{home_of}
 use Rattle.pin_frames.proofs.SlotSets.{numbers_are}
 use Rattle.pin_frames.proofs.together.list_act.Goals as goal
 
