@@ -1,8 +1,9 @@
 -- Numbers that rise stand once each.
-use Rattle.std.proofs.Common.{◌≡◌, ℕ, ◌≤◌, ◌<◌, List, [], ◌∷◌, Bool, true, false, refl, sym, ap, ◌∙◌, arith}
+use Rattle.std.proofs.Common.{◌≡◌, ℕ, ◌≤◌, ◌-◌, List, [], ◌∷◌, Bool, true, false, length, get_or, take, drop, refl, sym, ap, ◌∙◌, arith}
 use Rattle.std.specs.Prelude.{nat_lt, not, ◌&&◌, ◌||◌, ◌==◌}
 use Rattle.std.specs.List.{list_any}
-use Rattle.std.proofs.lemmas.Bool.{and_parts, ltb-true, eqb-false, ne_eqb}
+use Rattle.std.proofs.lemmas.Bool.{and_parts, ltb-true, ne_eqb}
+use Rattle.std.proofs.lemmas.List.{take_all}
 use Rattle.struct_ir.specs.Valid.{is_distinct}
 use Rattle.struct_ir.specs.inner.Rising.{rises_from}
 
@@ -22,5 +23,13 @@ rising low (x ∷ xs) e =
     ap (λ b. not b && is_distinct xs) (none_of x x xs (omega arith) p.1) ∙ rising x xs p.1
 
 -- and with the one from which they rise
-pub rising_is_distinct : (low : ℕ) (xs : List ℕ) → rises_from low xs ≡ true → is_distinct (low ∷ xs) ≡ true
+rising_is_distinct : (low : ℕ) (xs : List ℕ) → rises_from low xs ≡ true → is_distinct (low ∷ xs) ≡ true
 rising_is_distinct low xs e = ap (λ b. not b && is_distinct xs) (none_of low low xs (omega arith) e) ∙ rising low xs e
+
+-- so the look from the first number over the rest tells it
+pub rising_list : (xs : List ℕ) (d : ℕ) (b : Bool) → 1 ≤ length xs → b ≡ rises_from (get_or xs 0 d) (take (length xs - 1) (drop 1 xs)) → b ≡ true → b ≡ is_distinct xs
+rising_list [] d b h is holds = absurd (omega arith)
+rising_list (x ∷ xs) d b h is holds =
+    let same : take (length (x ∷ xs) - 1) xs ≡ xs = take_all (length (x ∷ xs) - 1) xs (omega arith) in
+    let rises : rises_from x xs ≡ true = sym (ap (λ l. rises_from x l) same) ∙ (sym is ∙ holds) in
+    holds ∙ sym (rising_is_distinct x xs rises)
