@@ -15,9 +15,9 @@ ghost use Rattle.pin_checker.specs.inner.Uses.{NodeKeeps, AreKept, AreKeptIn, Ar
 
 use crate::pair::Pair;
 use ak_words::NoMemory;
+use mark_sets::from_behind::{Walked, both, both_walked, led_to};
 use mark_sets::homes::{Homes, homes_of, keeps};
 use mark_sets::used::{head_used, used_act};
-use mark_sets::from_behind::{Walked, both, both_walked, led_to};
 use mark_sets::words::{is_empty, remove};
 use pin_flow::slots::bases_of;
 use std::alloc::Global;
