@@ -117,7 +117,12 @@ pub fn outline_of(alloc: Global, homes: Homes, rows: &[Node]) -> Result<Outline,
 /// # Errors
 ///
 /// Only want of memory.
-pub fn next_head(alloc: Global, outline: &Outline, next: &mut usize, on: &[u64]) -> Result<Vec<u64>, NoMemory>
+pub fn next_head(
+    alloc: Global,
+    outline: &Outline,
+    next: &mut usize,
+    on: &[u64],
+) -> Result<Vec<u64>, NoMemory>
     requires { next.old < length outline.now.heads.items }
     ensures next { OnOk result (next.new ≡ next.old + 1) }
     ensures head { IfOk result (λ s. (i : ℕ) → has s.items i ≡ head_at outline.now.heads.items next.old (has on.now i) i) }

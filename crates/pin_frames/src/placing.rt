@@ -135,7 +135,11 @@ fn list_bases(alloc: Global, bases: Vec<u32>, rows: Vec<Node>) -> Result<Vec<Nod
 }
 
 // None where some act doesn't keep what is used behind it, or something is used before its Look.
-fn list_together(alloc: Global, outline: &Outline, code: &[Node]) -> Result<Option<Vec<Node>>, NoMemory>
+fn list_together(
+    alloc: Global,
+    outline: &Outline,
+    code: &[Node],
+) -> Result<Option<Vec<Node>>, NoMemory>
     requires homes { AreHomes outline.now.homes }
     requires count { length outline.now.heads.items ≡ loops (nodes_view code.now) }
     requires heads { AreHeads outline.now.homes.bases.items outline.now.heads.items 0 (nodes_view code.now) }
@@ -144,7 +148,15 @@ fn list_together(alloc: Global, outline: &Outline, code: &[Node]) -> Result<Opti
     let mut rows = copy_row(alloc, code)?;
     let none = Vec::new(alloc);
     let mut next = 0;
-    let walked = list_all(alloc, outline, &mut next, &mut rows, Vec::new(alloc), &none, &none)?;
+    let walked = list_all(
+        alloc,
+        outline,
+        &mut next,
+        &mut rows,
+        Vec::new(alloc),
+        &none,
+        &none,
+    )?;
     if walked.kept && is_empty(&walked.on) {
         Ok(Some(rows))
     } else {

@@ -54,11 +54,16 @@ list_row-list_node-requires t c =
     let old : get_or xs k x ≡ x = sym c.index-rows-left.is in
     let cut : drop k all ≡ x ∷ drop c.row.left all = rest_is all k c.row.left x next c.row.invariant.few here in
     let o = c.args.outline.now in
-    let i = c.row.invariant.next in
-    (omega (arith, h), (c.requires.homes, (
-      within_in o.homes.bases.items o.heads.items c.args.next.now c.row.next k c.row.left all x (get_or xs k x) cut i old c.requires.within,
-      heads_in o.homes.bases.items o.heads.items c.args.next.now c.row.next k c.row.left all x (get_or xs k x) cut i old c.requires.heads,
-    )))
+    let i = c.row.invariant.next in (
+      omega (arith, h),
+      (
+        c.requires.homes,
+        (
+          within_in o.homes.bases.items o.heads.items c.args.next.now c.row.next k c.row.left all x (get_or xs k x) cut i old c.requires.within,
+          heads_in o.homes.bases.items o.heads.items c.args.next.now c.row.next k c.row.left all x (get_or xs k x) cut i old c.requires.heads,
+        ),
+      ),
+    )
 
 pub list_row-row-preserved : goal.list_row-row-preserved
 list_row-row-preserved t c =
@@ -190,22 +195,32 @@ pub list_loop-list_row-requires : goal.list_loop-list_row-requires
 list_loop-list_row-requires t c =
     let o = c.args.outline.now in
     let w = c.requires.within in
-    let f = c.in_ok-head.ensures.next in
-    (omega arith, (c.requires.homes, (
-      omega (arith, w, f),
-      subst (λ k. AreHeads o.homes.bases.items o.heads.items k (nodes_view c.args.step.now)) (omega (arith, f)) c.requires.heads.1,
-    )))
+    let f = c.in_ok-head.ensures.next in (
+      omega arith,
+      (
+        c.requires.homes,
+        (
+          omega (arith, w, f),
+          subst (λ k. AreHeads o.homes.bases.items o.heads.items k (nodes_view c.args.step.now)) (omega (arith, f)) c.requires.heads.1,
+        ),
+      ),
+    )
 
 pub list_loop-list_row-requires-2 : goal.list_loop-list_row-requires-2
 list_loop-list_row-requires-2 t c =
     let o = c.args.outline.now in
     let w = c.requires.within in
     let f = c.in_ok-head.ensures.next in
-    let g = c.in_ok-latch.ensures.next in
-    (omega arith, (c.requires.homes, (
-      omega (arith, w, f, g),
-      subst (λ k. AreHeads o.homes.bases.items o.heads.items k (nodes_view c.args.body.now)) (omega (arith, f, g)) c.requires.heads.2,
-    )))
+    let g = c.in_ok-latch.ensures.next in (
+      omega arith,
+      (
+        c.requires.homes,
+        (
+          omega (arith, w, f, g),
+          subst (λ k. AreHeads o.homes.bases.items o.heads.items k (nodes_view c.args.body.now)) (omega (arith, f, g)) c.requires.heads.2,
+        ),
+      ),
+    )
 
 pub list_loop-returns-clause-next : goal.list_loop-returns-clause-next
 list_loop-returns-clause-next t c =
