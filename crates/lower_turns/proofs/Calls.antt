@@ -133,7 +133,7 @@ variables_long (v ∷ vs) (suc n) le =
 
 -- the locals of a call that has just begun
 pub new_agrees : (t : tree.Typed) (m : ℕ) (f : tree.Func) (params : ℕ) (all : tree.Exprs) (args : List Value) (tm : ℕ → Held) (u : ℕ) → ParamsAre params f.locals all → Stand tm all args u
-    → AgreesIn f (outermost f) (first_locals f args) (passed tm (temps_of all u)) (λ i. None)
+    → AgreesIn f (outermost t.structs f) (first_locals f args) (passed tm (temps_of all u)) (λ i. None)
 new_agrees t m f params all args tm u h s = record {
   count = variables_long args (length f.locals) (args_length f.locals params all args tm u h s);
   low = omega arith;

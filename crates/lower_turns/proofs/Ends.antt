@@ -26,6 +26,7 @@ use Rattle.lower_turns.proofs.Relation.{InRegister, no_value, one_value, InBlock
 use Rattle.lower_turns.proofs.Registers.{set_here, set_there}
 use Rattle.lower_turns.proofs.Calls.{nth_lowered}
 use Rattle.lower_turns.proofs.Steps.{ends_object, then_same}
+use Rattle.lower_turns.proofs.Over.{Forgives, over_none, ends_forgive, over_forgiven, ends_over_step}
 use Rattle.lower_turns.proofs.Setting.{Stands, Setting, here, now, own, Alike, frame, objects_over, Leaves, GoesS, halted_in}
 use Rattle.lower_turns.proofs.Objects.{held_here, held_there, object_at, Over, agrees_block, within_locals, end_one, end_register}
 

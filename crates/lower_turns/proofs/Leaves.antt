@@ -187,7 +187,7 @@ module _ (g : Setting) where
         (subst (λ z. ReturnsAs (access_of_type g.f.result) z (Some 0) (set_at tm 0 (value v) 0)) (sym (result_at true e)) (subst (ReturnsAs (access_of_type g.f.result) (Some v) (Some 0)) (sym (set_here tm 0 (value v))) (with_value v 0 kind))))
 
   -- at the end of the body
-  pub leave_goes : g.a ≡ outermost g.f → GoesS g in_function (leave_way (here g)) [] (last_nodes (g.n == g.t.main) (registers_of g.f)) done
+  pub leave_goes : g.a ≡ outermost g.t.structs g.f → GoesS g in_function (leave_way (here g)) [] (last_nodes (g.n == g.t.main) (registers_of g.f)) done
   leave_goes e = record {
     at = subst (λ (y : Around). AtS g.t g.n g.f y in_function source.leaves [] (last_nodes (g.n == g.t.main) (registers_of g.f)) done) (sym e) at_leaves;
     end = λ vs b tm ob agrees. last_at vs tm ob b agrees (g.n == g.t.main) (registers_of g.f) refl refl;

@@ -42,10 +42,11 @@ unset_two ob i j = fun_ext (λ x. by (x == i) (x == j) x)
 unset_none : (ob : ℕ → Option ℕ) (i : ℕ) → ob i ≡ None → set_at ob i None ≡ ob
 unset_none ob i e = fun_ext (λ x. by_same x i (λ s. subst (λ z. set_at ob i None z ≡ ob z) (sym s) (set_here ob i None ∙ sym e)) (λ ne. set_there ob i None x ne))
 
-with_two : (l : Own) (a b : ℕ → Option ℕ) (c d : Blocks) → a ≡ b → c ≡ d → record { function = l.function; temps = l.temps; objects = a; blocks = c } ≡ record { function = l.function; temps = l.temps; objects = b; blocks = d }
-with_two l a b c d e h =
-    ap (λ (o : ℕ → Option ℕ). record { function = l.function; temps = l.temps; objects = o; blocks = c }) e
-    ∙ ap (λ (z : Blocks). record { function = l.function; temps = l.temps; objects = b; blocks = z }) h
+abbrev with_both : Own → (ℕ → Option ℕ) → Blocks → Own
+with_both l objects blocks = record { function = l.function; temps = l.temps; objects = objects; blocks = blocks }
+
+with_two : (l : Own) (a b : ℕ → Option ℕ) (c d : Blocks) → a ≡ b → c ≡ d → with_both l a c ≡ with_both l b d
+with_two l a b c d e h = ap (λ (o : ℕ → Option ℕ). with_both l o c) e ∙ ap (with_both l b) h
 
 -- an object that has no block ends: nothing changes
 pub ended_none : (l : Own) (i : ℕ) → l.objects i ≡ None → object_ended l i ≡ l
@@ -75,28 +76,34 @@ same_object : (i k : ℕ) → (i == k) ≡ true → i ≡ k
 same_object i k e = grind (arith, nat_tests)
 
 -- one of them has ended already
+twice_by : (i : ℕ) (is : List ℕ) (l : Own) (k : ℕ) → ((m : Own) → among is k ≡ true → objects_over is (object_ended m k) ≡ objects_over is m) → (b : Bool) → (i == k) ≡ b → (if b then true else among is k) ≡ true
+    → objects_over (i ∷ is) (object_ended l k) ≡ objects_over (i ∷ is) l
+twice_by i is l k rest true h e = ap (objects_over is) (subst (λ z. object_ended (object_ended l z) i ≡ object_ended l i) (same_object i k h) (ended_again l i))
+twice_by i is l k rest false h e = ap (objects_over is) (ended_two l k i) ∙ rest (object_ended l i) e
+
 pub over_twice : (is : List ℕ) (l : Own) (k : ℕ) → among is k ≡ true → objects_over is (object_ended l k) ≡ objects_over is l
 over_twice [] l k e = absurd cc
-over_twice (i ∷ is) l k e = by (i == k) refl e
-  where
-    by : (b : Bool) → (i == k) ≡ b → (if b then true else among is k) ≡ true → objects_over (i ∷ is) (object_ended l k) ≡ objects_over (i ∷ is) l
-    by true h e = ap (objects_over is) (subst (λ z. object_ended (object_ended l z) i ≡ object_ended l i) (same_object i k h) (ended_again l i))
-    by false h e = ap (objects_over is) (ended_two l k i) ∙ over_twice is (object_ended l i) k e
+over_twice (i ∷ is) l k e = twice_by i is l k (λ m h. over_twice is m k h) (i == k) refl e
+
+-- the first of a row is among it, and each of the others
+here_by : (b r : Bool) → b ≡ true → (if b then true else r) ≡ true
+here_by true r e = refl
+here_by false r e = absurd cc
+
+later_by : (b r : Bool) → r ≡ true → (if b then true else r) ≡ true
+later_by true r e = refl
+later_by false r e = e
+
+pub among_first : (i : ℕ) (is : List ℕ) → among (i ∷ is) i ≡ true
+among_first i is = here_by (i == i) (among is i) (grind (arith, nat_tests))
+
+pub among_later : (i : ℕ) (is : List ℕ) (k : ℕ) → among is k ≡ true → among (i ∷ is) k ≡ true
+among_later i is k e = later_by (i == k) (among is k) e
 
 -- none of them has a block
 pub over_none : (is : List ℕ) (l : Own) → ((k : ℕ) → among is k ≡ true → l.objects k ≡ None) → objects_over is l ≡ l
 over_none [] l none = refl
-over_none (i ∷ is) l none =
-    ap (objects_over is) (ended_none l i (none i (by (i == i) (grind (arith, nat_tests)))))
-    ∙ over_none is l (λ k e. none k (later (i == k) k e))
-  where
-    by : (b : Bool) → b ≡ true → (if b then true else among is i) ≡ true
-    by true e = refl
-    by false e = absurd cc
-
-    later : (b : Bool) (k : ℕ) → among is k ≡ true → (if b then true else among is k) ≡ true
-    later true k e = refl
-    later false k e = e
+over_none (i ∷ is) l none = ap (objects_over is) (ended_none l i (none i (among_first i is))) ∙ over_none is l (λ k e. none k (among_later i is k e))
 
 -- ---- from a position on
 
@@ -116,24 +123,15 @@ module _ (p : Ir) (thread : ℕ) (answer : Answer) (callers : List (Point Positi
       ∙ ap (onward p thread answer callers s (then_ r q)) (over_twice is l k e)
       ∙ sym (ends_over_step place is r q l)
 
+  forgiven_by : (outer : List ℕ) (i : ℕ) (is : List ℕ) (q : Position) (l : Own) → (among outer i ≡ false → Forgives q i)
+      → ((m : Own) → onward p thread answer callers s q (objects_over is m) ≡ onward p thread answer callers s q (objects_over (again outer is) m)) → (b : Bool) → among outer i ≡ b
+      → onward p thread answer callers s q (objects_over is (object_ended l i)) ≡ onward p thread answer callers s q (objects_over (if b then i ∷ again outer is else again outer is) l)
+  forgiven_by outer i is q l f rest true e = rest (object_ended l i)
+  forgiven_by outer i is q l f rest false e = ap (onward p thread answer callers s q) (over_last is l i) ∙ f e (objects_over is l) ∙ rest l
+
   -- so all of these but those that are declared around the loop, too
   pub over_forgiven : (outer is : List ℕ) (q : Position) → ((k : ℕ) → among is k ≡ true → among outer k ≡ false → Forgives q k) → (l : Own)
       → onward p thread answer callers s q (objects_over is l) ≡ onward p thread answer callers s q (objects_over (again outer is) l)
   over_forgiven outer [] q f l = refl
-  over_forgiven outer (i ∷ is) q f l = by (among outer i) refl
-    where
-      here : (b : Bool) → b ≡ true → (if b then true else among is i) ≡ true
-      here true e = refl
-      here false e = absurd cc
-
-      later : (b : Bool) (k : ℕ) → among is k ≡ true → (if b then true else among is k) ≡ true
-      later true k e = refl
-      later false k e = e
-
-      rest : (m : Own) → onward p thread answer callers s q (objects_over is m) ≡ onward p thread answer callers s q (objects_over (again outer is) m)
-      rest m = over_forgiven outer is q (λ k e. f k (later (i == k) k e)) m
-
-      by : (b : Bool) → among outer i ≡ b
-          → onward p thread answer callers s q (objects_over is (object_ended l i)) ≡ onward p thread answer callers s q (objects_over (if b then i ∷ again outer is else again outer is) l)
-      by true e = rest (object_ended l i)
-      by false e = ap (onward p thread answer callers s q) (over_last is l i) ∙ f i (here (i == i) (grind (arith, nat_tests))) e (objects_over is l) ∙ rest l
+  over_forgiven outer (i ∷ is) q f l =
+      forgiven_by outer i is q l (f i (among_first i is)) (over_forgiven outer is q (λ k e. f k (among_later i is k e))) (among outer i) refl
