@@ -140,6 +140,7 @@ new_agrees t m f params all args tm u h s = record {
   switches = tt;
   register = λ i l e none. new_register f.locals params all args tm u (length f.locals - length args) h s i l e;
   block = λ i k e. subst (λ x. InBlock x None) (sym (new_block f.locals params all args tm u (length f.locals - length args) 0 h s i k e)) no_block;
+  closed = λ k e. refl;
 }
 
 -- ---- a function is entered

@@ -20,7 +20,7 @@ use Rattle.struct_ir.specs.Structured.{Position, then_, out_of, end_of}
 use Rattle.struct_ir.specs.meaning.Blocks as code
 use Rattle.struct_ir.specs.meaning.Blocks.{Held, Own, set_at, without, object_ended, all_ended, begun, begun_after, size_of}
 use Rattle.struct_ir.specs.meaning.Threads.{over}
-use Rattle.lower_forms.specs.Forms.{Frame, home, home_or_none, with_home, ends, objects_in, objects_by, home_in}
+use Rattle.lower_forms.specs.Forms.{Frame, home, home_or_none, among, with_home, ends, objects_in, objects_by, home_in}
 use Rattle.lower_forms.specs.Programs.{home_if, next_home, homes_from, object_of, with_object, objects_of, lowered}
 use Rattle.lower_turns.proofs.Relation.{InRegister, no_value, one_value, InBlock, no_block, one_block, held_in, homes_of, at_end}
 use Rattle.lower_turns.proofs.Registers.{set_here, set_there}
@@ -119,9 +119,9 @@ module _ (g : Setting) (vs : List Variable) (tm : ℕ → Held) (ob : ℕ → Op
   object_size i k l e h =
       ap (λ (o : Option Func). size_of (slice_get (code.objects_of o) k)) (nth_lowered g.t g.n g.f g.call.there) ∙ ap size_of (object_at g.t.structs g.f.locals i k l e h)
 
-  pub begin_block : (b : Blocks) (i k : ℕ) (l : tree.Local) → slice_get g.f.locals i ≡ Some l → home (frame g) i ≡ Some k
+  pub begin_block : (b : Blocks) (i k : ℕ) (l : tree.Local) → slice_get g.f.locals i ≡ Some l → home (frame g) i ≡ Some k → among g.a.around k ≡ true
       → Begun g tm k (length (ended_local i (now g vs b)).world.blocks) (made_local (here g) i (now g vs b)) (begun (lowered g.t) (own g ob tm b) k)
-  begin_block b i k l e has =
+  begin_block b i k l e has inside =
       let o = end_one g vs tm ob agrees b i k has in
       let blocks_are : without b (ob k) ≡ o.b' = ap (λ (z : Own). z.blocks) o.code_is in
       let name_is : length (ended_local i (now g vs b)).world.blocks ≡ length o.b' = ap (λ (z : Now). length z.world.blocks) o.source_is in
@@ -135,7 +135,7 @@ module _ (g : Setting) (vs : List Variable) (tm : ℕ → Held) (ob : ℕ → Op
           agrees' = agrees_block g o.vs' tm o.ob' o.agrees' i k has (set o.vs' i (source.lies (length o.b'))) (set_at ob k (Some (length o.b'))) (length-set o.vs' i (source.lies (length o.b'))) (λ j ne. held_there o.vs' i j (source.lies (length o.b')) ne)
               (λ m ne. set_there ob k (Some (length o.b')) m ne ∙ sym (set_there ob k None m ne) ∙ ap (λ (z : Own). z.objects m) o.code_is)
               (subst (λ y. InBlock y (set_at ob k (Some (length o.b')) k)) (sym (held_here o.vs' i (source.lies (length o.b')) (within_locals g o.vs' tm o.ob' o.agrees' i k has)))
-              (subst (InBlock (source.lies (length o.b'))) (sym (set_here ob k (Some (length o.b')))) (one_block (length o.b'))));
+              (subst (InBlock (source.lies (length o.b'))) (sym (set_here ob k (Some (length o.b')))) (one_block (length o.b')))) (λ z. let c : true ≡ false = sym inside ∙ z in absurd cc);
         };
         there = set_here ob k (Some (length o.b')) ∙ ap Some (sym name_is);
       }

@@ -40,7 +40,7 @@ use Rattle.struct_ir.specs.meaning.Blocks.{Held, Own, value, number, pointer, ta
 use Rattle.struct_ir.specs.meaning.Threads.{further, moved_if}
 use Rattle.lower_forms.specs.Counts.{greatest, greatest_row, count_if}
 use Rattle.lower_forms.specs.Forms as forms
-use Rattle.lower_forms.specs.Forms.{Frame, home, home_or_none, sets, acts, branches, sets_int, sets_truth, Reach, found, direct, indexed, reached, behind, at_temp, member_reach, reach, member_nodes, temps_of, lib_nodes, expr_nodes, place_nodes, args_nodes, ends, with_home, sized_copy, computes, update_by, test_nodes, choose_nodes, stmt_nodes, row_nodes, switch_nodes}
+use Rattle.lower_forms.specs.Forms.{Frame, home, home_or_none, among, sets, acts, branches, sets_int, sets_truth, Reach, found, direct, indexed, reached, behind, at_temp, member_reach, reach, member_nodes, temps_of, lib_nodes, expr_nodes, place_nodes, args_nodes, ends, with_home, sized_copy, computes, update_by, test_nodes, choose_nodes, stmt_nodes, row_nodes, switch_nodes}
 use Rattle.lower_forms.specs.Programs.{homes_from, body_frame, registers_of, last_nodes}
 
 -- ---- values and registers
@@ -154,16 +154,18 @@ abbrev pub Holds : (low high : ℕ) → (ℕ → Held) → List (ℕ × ℕ) →
 Holds low high tm [] = Unit {0}
 Holds low high tm (x ∷ rest) = (low ≤ x.0) × (x.0 < high) × (tm x.0 ≡ number (num int (pos x.1))) × Holds low x.0 tm rest
 
-pub record Agrees (homes : List (Option ℕ)) (first : ℕ) (held : List (ℕ × ℕ)) (locals : List tree.Local) (vs : List Variable) (tm : ℕ → Held) (ob : ℕ → Option ℕ) : Type 0 where
+pub record Agrees (homes : List (Option ℕ)) (first : ℕ) (held : List (ℕ × ℕ)) (around : List ℕ) (locals : List tree.Local) (vs : List Variable) (tm : ℕ → Held) (ob : ℕ → Option ℕ) : Type 0 where
   pub count : length vs ≡ length locals
   pub low : length locals ≤ first
   pub switches : Holds (length locals) first tm held
   pub register : (i : ℕ) (l : tree.Local) → slice_get locals i ≡ Some l → home_or_none (slice_get homes i) ≡ None → InRegister (access_of_type l.ty) (held_in vs i) (tm i)
   pub block : (i k : ℕ) → home_or_none (slice_get homes i) ≡ Some k → InBlock (held_in vs i) (ob k)
+  -- an object of no block around has ended, or never began
+  pub closed : (k : ℕ) → among around k ≡ false → ob k ≡ None
 
 -- in a call of this function
 abbrev pub AgreesIn : tree.Func → Around → List Variable → (ℕ → Held) → (ℕ → Option ℕ) → Type 0
-AgreesIn f a vs tm ob = Agrees (homes_from 0 f.locals) a.first (running a) f.locals vs tm ob
+AgreesIn f a vs tm ob = Agrees (homes_from 0 f.locals) a.first (running a) a.around f.locals vs tm ob
 
 -- ---- operators
 

@@ -223,7 +223,7 @@ module _ (t : tree.Typed) (well : IsWellFormed t) (argument : Ptr) where
   unfolding a_pointer
   begin_one m f k e params =
       subst (λ j. AgreesIn f (outermost t.structs f) (first_locals f (arguments_if j argument)) (first_temps j argument) (λ i. None)) (sym e)
-      (agrees_below (homes_from 0 f.locals) (length f.locals) [] f.locals (first_locals f (values.Pointer argument ∷ [])) (passed (λ j. value (values.Pointer argument)) (0 ∷ [])) (first_temps 1 argument) (λ i. None)
+      (agrees_below (homes_from 0 f.locals) (length f.locals) [] (outermost t.structs f).around f.locals (first_locals f (values.Pointer argument ∷ [])) (passed (λ j. value (values.Pointer argument)) (0 ∷ [])) (first_temps 1 argument) (λ i. None)
       (new_agrees t m f 1 (tree.more_exprs a_pointer tree.no_exprs) (values.Pointer argument ∷ []) (λ j. value (values.Pointer argument)) 0 params (tt, refl, tt)) (λ i lt. one_temp i))
 
   -- a function's first turn, where its locals agree
