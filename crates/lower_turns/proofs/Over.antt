@@ -100,6 +100,30 @@ among_first i is = here_by (i == i) (among is i) (grind (arith, nat_tests))
 pub among_later : (i : ℕ) (is : List ℕ) (k : ℕ) → among is k ≡ true → among (i ∷ is) k ≡ true
 among_later i is k e = later_by (i == k) (among is k) e
 
+-- ---- those that aren't declared around the loop, too
+
+fresh_by : (outer : List ℕ) (i : ℕ) (is : List ℕ) (k : ℕ) → (among is k ≡ true → among outer k ≡ false → among (fresh outer is) k ≡ true) → (b : Bool) → among outer i ≡ b → (c : Bool) → (i == k) ≡ c → (if c then true else among is k) ≡ true → among outer k ≡ false
+    → among (if b then fresh outer is else i ∷ fresh outer is) k ≡ true
+fresh_by outer i is k rest true d true e h g = let c : true ≡ false = sym d ∙ ap (among outer) (same_object i k e) ∙ g in absurd cc
+fresh_by outer i is k rest true d false e h g = rest h g
+fresh_by outer i is k rest false d true e h g = here_by (i == k) (among (fresh outer is) k) e
+fresh_by outer i is k rest false d false e h g = later_by (i == k) (among (fresh outer is) k) (rest h g)
+
+-- each of them is there
+pub among_fresh : (outer is : List ℕ) (k : ℕ) → among is k ≡ true → among outer k ≡ false → among (fresh outer is) k ≡ true
+among_fresh outer [] k h g = absurd cc
+among_fresh outer (i ∷ is) k h g = fresh_by outer i is k (among_fresh outer is k) (among outer i) refl (i == k) refl h g
+
+apart_by : (outer : List ℕ) (i : ℕ) (is : List ℕ) (k : ℕ) → (among (fresh outer is) k ≡ true → among outer k ≡ false) → (b : Bool) → among outer i ≡ b → (c : Bool) → (i == k) ≡ c → among (if b then fresh outer is else i ∷ fresh outer is) k ≡ true → among outer k ≡ false
+apart_by outer i is k rest true d c e h = rest h
+apart_by outer i is k rest false d true e h = ap (among outer) (sym (same_object i k e)) ∙ d
+apart_by outer i is k rest false d false e h = rest (sym (ap (λ (z : Bool). if z then true else among (fresh outer is) k) e) ∙ h)
+
+-- and none of them is declared around the loop
+pub fresh_apart : (outer is : List ℕ) (k : ℕ) → among (fresh outer is) k ≡ true → among outer k ≡ false
+fresh_apart outer [] k h = absurd cc
+fresh_apart outer (i ∷ is) k h = apart_by outer i is k (fresh_apart outer is k) (among outer i) refl (i == k) refl h
+
 -- none of them has a block
 pub over_none : (is : List ℕ) (l : Own) → ((k : ℕ) → among is k ≡ true → l.objects k ≡ None) → objects_over is l ≡ l
 over_none [] l none = refl
