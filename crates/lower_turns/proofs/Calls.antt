@@ -133,13 +133,14 @@ variables_long (v ∷ vs) (suc n) le =
 
 -- the locals of a call that has just begun
 pub new_agrees : (t : tree.Typed) (m : ℕ) (f : tree.Func) (params : ℕ) (all : tree.Exprs) (args : List Value) (tm : ℕ → Held) (u : ℕ) → ParamsAre params f.locals all → Stand tm all args u
-    → AgreesIn f (outermost f) (first_locals f args) (passed tm (temps_of all u)) (λ i. None)
+    → AgreesIn f (outermost t.structs f) (first_locals f args) (passed tm (temps_of all u)) (λ i. None)
 new_agrees t m f params all args tm u h s = record {
   count = variables_long args (length f.locals) (args_length f.locals params all args tm u h s);
   low = omega arith;
   switches = tt;
   register = λ i l e none. new_register f.locals params all args tm u (length f.locals - length args) h s i l e;
   block = λ i k e. subst (λ x. InBlock x None) (sym (new_block f.locals params all args tm u (length f.locals - length args) 0 h s i k e)) no_block;
+  closed = λ k e. refl;
 }
 
 -- ---- a function is entered

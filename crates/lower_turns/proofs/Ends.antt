@@ -1,5 +1,5 @@
 -- Blocks that begin, and all that end with a block of statements or with a call.
-use Rattle.std.proofs.Common.{◌≡◌, ◌≢◌, ℕ, zero, suc, ◌+◌, ◌<◌, ◌≤◌, Bool, true, false, List, [], ◌∷◌, ◌++◌, length, set, Option, Some, None, refl, sym, ap, subst, ◌∙◌, arith, length-set, add-zero}
+use Rattle.std.proofs.Common.{◌≡◌, ◌≢◌, ℕ, zero, suc, ◌+◌, ◌<◌, ◌≤◌, Bool, true, false, List, [], ◌∷◌, ◌++◌, length, set, Option, Some, None, refl, sym, ap, subst, ◌∙◌, arith, length-set, add-zero, ◌==◌, if◌then◌else◌}
 use Rattle.std.specs.Prelude.{slice_get}
 use Rattle.block_store.specs.declared.values.Access.{Access}
 use Rattle.block_store.specs.declared.values.BlockKind.TheVariants as block_kinds
@@ -20,13 +20,14 @@ use Rattle.struct_ir.specs.Structured.{Position, then_, out_of, end_of}
 use Rattle.struct_ir.specs.meaning.Blocks as code
 use Rattle.struct_ir.specs.meaning.Blocks.{Held, Own, set_at, without, object_ended, all_ended, begun, begun_after, size_of}
 use Rattle.struct_ir.specs.meaning.Threads.{over}
-use Rattle.lower_forms.specs.Forms.{Frame, home, home_or_none, with_home, ends, objects_in, objects_by, home_in}
+use Rattle.lower_forms.specs.Forms.{Frame, home, home_or_none, among, again, with_home, ends, objects_in, objects_by, home_in}
 use Rattle.lower_forms.specs.Programs.{home_if, next_home, homes_from, object_of, with_object, objects_of, lowered}
-use Rattle.lower_turns.proofs.Relation.{InRegister, no_value, one_value, InBlock, no_block, one_block, held_in, homes_of, at_end}
+use Rattle.lower_turns.proofs.Relation.{InRegister, no_value, one_value, InBlock, no_block, one_block, held_in, homes_of, at_end, in_a_block}
 use Rattle.lower_turns.proofs.Registers.{set_here, set_there}
 use Rattle.lower_turns.proofs.Calls.{nth_lowered}
-use Rattle.lower_turns.proofs.Steps.{ends_object, then_same}
-use Rattle.lower_turns.proofs.Setting.{Stands, Setting, here, now, own, Alike, frame, objects_over, Leaves, GoesS, halted_in}
+use Rattle.lower_turns.proofs.Steps.{onward, ends_object, then_same}
+use Rattle.lower_turns.proofs.Over.{Forgives, over_last, over_twice, over_none, over_forgiven}
+use Rattle.lower_turns.proofs.Setting.{Stands, Setting, here, now, own, Alike, frame, objects_over, Leaves, GoesS, halted_in, at_around}
 use Rattle.lower_turns.proofs.Objects.{held_here, held_there, object_at, Over, agrees_block, within_locals, end_one, end_register}
 
 -- ---- several blocks end
@@ -77,6 +78,66 @@ ends_leaves g w left r q place is None goes = λ vs b tm ob h.
     (subst (λ (l : Own). Alike g (w.breaks (now g o.vs' o.b')) (out_of q) (objects_over left l)) (sym o.code_is) (goes o.vs' o.b' tm o.ob' o.agrees')))
 ends_leaves g w left r q place is (Some flag) goes = λ vs b tm ob h. ends_alike (halted_in g) w.breaks r q goes place is vs b tm ob h
 
+-- ---- a block is left by a break that ends none of its objects but those that are declared around the loop, too
+
+pub over_swap : (is js : List ℕ) (l : Own) → objects_over is (objects_over js l) ≡ objects_over js (objects_over is l)
+over_swap is [] l = refl
+over_swap is (j ∷ js) l = over_swap is js (object_ended l j) ∙ ap (objects_over js) (over_last is l j)
+
+-- none of them has a block then
+pub ended_all : (is : List ℕ) (l : Own) (k : ℕ) → among is k ≡ true → (objects_over is l).objects k ≡ None
+ended_all is l k e = ap (λ (z : Own). z.objects k) (sym (over_twice is l k e) ∙ over_last is l k) ∙ set_here (objects_over is l).objects k None
+
+neither_by : (x : ℕ) (xs ys : List ℕ) (k : ℕ) → (among xs k ≡ false → among (xs ++ ys) k ≡ false) → (b : Bool) → (if b then true else among xs k) ≡ false → (if b then true else among (xs ++ ys) k) ≡ false
+neither_by x xs ys k rest true d = absurd cc
+neither_by x xs ys k rest false d = rest d
+
+among_neither : (xs ys : List ℕ) (k : ℕ) → among xs k ≡ false → among ys k ≡ false → among (xs ++ ys) k ≡ false
+among_neither [] ys k e h = h
+among_neither (x ∷ xs) ys k e h = neither_by x xs ys k (λ d. among_neither xs ys k d h) (x == k) e
+
+-- in a block that declares locals with these objects
+abbrev pub blocked_in : Setting → List ℕ → Setting
+blocked_in g os = at_around g (in_a_block g.a os) g.low
+
+-- behind the block, once they have ended
+pub shut : (g : Setting) (os : List ℕ) (vs : List Variable) (tm : ℕ → Held) (ob : ℕ → Option ℕ) → Stands (blocked_in g os) vs tm ob → ((k : ℕ) → among os k ≡ true → ob k ≡ None) → Stands g vs tm ob
+shut g os vs tm ob h ended = record {
+  count = h.count;
+  low = h.low;
+  switches = h.switches;
+  register = h.register;
+  block = h.block;
+  closed = λ k e. by k e (among os k) refl;
+}
+  where
+    by : (k : ℕ) → among g.a.around k ≡ false → (b : Bool) → among os k ≡ b → ob k ≡ None
+    by k e true d = ended k d
+    by k e false d = h.closed k (among_neither os g.a.around k d e)
+
+-- where the other objects end next anyway
+pub block_leaves : (g : Setting) (w : Way) (left : List ℕ) (r : Nodes) (q : Position) (place : ℕ) (is : List ℕ)
+    → ((k : ℕ) → among (homes_of (homes_from 0 g.f.locals) is) k ≡ true → among g.a.outer k ≡ false → Forgives (lowered g.t) g.thread g.answer g.cs' g.s (out_of q) k)
+    → Leaves g w left r q None → Leaves (blocked_in g (homes_of (homes_from 0 g.f.locals) is)) (end_way is w) (again g.a.outer (homes_of (homes_from 0 g.f.locals) is) ++ left) (ends place (homes_of (homes_from 0 g.f.locals) is) r) q None
+block_leaves g w left r q place is forgives goes = λ vs b tm ob h.
+    let os : List ℕ = homes_of (homes_from 0 g.f.locals) is in
+    let m : Own = own g ob tm b in
+    let o = ends_over (blocked_in g os) tm is vs b ob h in
+    let stands = shut g os o.vs' tm o.ob' o.agrees' (λ k e. sym (ap (λ (z : Own). z.objects k) o.code_is) ∙ ended_all os m k e) in
+    let same : onward (lowered g.t) g.thread g.answer g.cs' g.s (out_of q) (objects_over (again g.a.outer os ++ left) m) ≡ onward (lowered g.t) g.thread g.answer g.cs' g.s (out_of q) (objects_over left (objects_over os m))
+    = ap (onward (lowered g.t) g.thread g.answer g.cs' g.s (out_of q)) (over_two (again g.a.outer os) left m ∙ over_swap left (again g.a.outer os) m)
+    ∙ sym (over_forgiven (lowered g.t) g.thread g.answer g.cs' g.s g.a.outer os (out_of q) forgives (objects_over left m))
+    ∙ ap (onward (lowered g.t) g.thread g.answer g.cs' g.s (out_of q)) (over_swap os left m) in
+    then_same (lowered g.t) g.thread g.answer g.cs' g.s g.t (w.breaks (ended_locals is (now g vs b))) (out_of q) (out_of q) (objects_over (again g.a.outer os ++ left) m) (objects_over left (objects_over os m)) same
+    (subst (λ (x : Now). Alike g (w.breaks x) (out_of q) (objects_over left (objects_over os m))) (sym o.source_is)
+    (subst (λ (l : Own). Alike g (w.breaks (now g o.vs' o.b')) (out_of q) (objects_over left l)) (sym o.code_is) (goes o.vs' o.b' tm o.ob' stands)))
+
+-- where a loop is left by its condition, and before its step: none of these objects has a block, so their Ends do nothing
+pub none_left : (g : Setting) (vs : List Variable) (b : Blocks) (tm : ℕ → Held) (ob : ℕ → Option ℕ) → Stands g vs tm ob → (place : ℕ) (os : List ℕ) → ((k : ℕ) → among os k ≡ true → among g.a.around k ≡ false) → (x : Turn Control) (r : Nodes) (q : Position)
+    → Alike g x (then_ r q) (own g ob tm b) → Alike g x (then_ (ends place os r) q) (own g ob tm b)
+none_left g vs b tm ob h place os apart x r q goes =
+    ends_then g x place os r q (own g ob tm b) (subst (λ (l : Own). Alike g x (then_ r q) l) (sym (over_none os (own g ob tm b) (λ k e. h.closed k (apart k e)))) goes)
+
 -- a block's locals end behind it, and on every way out
 pub end_goes : (g : Setting) (io : Jumps) (w : Way) (left : List ℕ) (r : Nodes) (q : Position) → GoesS g io w left r q → (place : ℕ) (is : List ℕ)
     → GoesS g io (end_way is w) (homes_of (homes_from 0 g.f.locals) is ++ left) (ends place (homes_of (homes_from 0 g.f.locals) is) r) q
@@ -118,9 +179,9 @@ module _ (g : Setting) (vs : List Variable) (tm : ℕ → Held) (ob : ℕ → Op
   object_size i k l e h =
       ap (λ (o : Option Func). size_of (slice_get (code.objects_of o) k)) (nth_lowered g.t g.n g.f g.call.there) ∙ ap size_of (object_at g.t.structs g.f.locals i k l e h)
 
-  pub begin_block : (b : Blocks) (i k : ℕ) (l : tree.Local) → slice_get g.f.locals i ≡ Some l → home (frame g) i ≡ Some k
+  pub begin_block : (b : Blocks) (i k : ℕ) (l : tree.Local) → slice_get g.f.locals i ≡ Some l → home (frame g) i ≡ Some k → among g.a.around k ≡ true
       → Begun g tm k (length (ended_local i (now g vs b)).world.blocks) (made_local (here g) i (now g vs b)) (begun (lowered g.t) (own g ob tm b) k)
-  begin_block b i k l e has =
+  begin_block b i k l e has inside =
       let o = end_one g vs tm ob agrees b i k has in
       let blocks_are : without b (ob k) ≡ o.b' = ap (λ (z : Own). z.blocks) o.code_is in
       let name_is : length (ended_local i (now g vs b)).world.blocks ≡ length o.b' = ap (λ (z : Now). length z.world.blocks) o.source_is in
@@ -134,7 +195,7 @@ module _ (g : Setting) (vs : List Variable) (tm : ℕ → Held) (ob : ℕ → Op
           agrees' = agrees_block g o.vs' tm o.ob' o.agrees' i k has (set o.vs' i (source.lies (length o.b'))) (set_at ob k (Some (length o.b'))) (length-set o.vs' i (source.lies (length o.b'))) (λ j ne. held_there o.vs' i j (source.lies (length o.b')) ne)
               (λ m ne. set_there ob k (Some (length o.b')) m ne ∙ sym (set_there ob k None m ne) ∙ ap (λ (z : Own). z.objects m) o.code_is)
               (subst (λ y. InBlock y (set_at ob k (Some (length o.b')) k)) (sym (held_here o.vs' i (source.lies (length o.b')) (within_locals g o.vs' tm o.ob' o.agrees' i k has)))
-              (subst (InBlock (source.lies (length o.b'))) (sym (set_here ob k (Some (length o.b')))) (one_block (length o.b'))));
+              (subst (InBlock (source.lies (length o.b'))) (sym (set_here ob k (Some (length o.b')))) (one_block (length o.b')))) (λ z. let c : true ≡ false = sym inside ∙ z in absurd cc);
         };
         there = set_here ob k (Some (length o.b')) ∙ ap Some (sym name_is);
       }

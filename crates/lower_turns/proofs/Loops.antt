@@ -144,6 +144,7 @@ module _ (g : Setting) where
             let far : j ≢ i = λ z. absurd (omega (arith, z, clear.0, slice_get_within g.f.locals j k there)) in
             subst (InRegister (access_of_type k.ty) (held_in vs j)) (sym (set_there tm i (number (num int (pos 0))) j far)) (stands.register j k there none);
         block = stands.block;
+        closed = stands.closed;
       }))
 
   -- a break

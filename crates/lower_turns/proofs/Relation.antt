@@ -40,8 +40,8 @@ use Rattle.struct_ir.specs.meaning.Blocks.{Held, Own, value, number, pointer, ta
 use Rattle.struct_ir.specs.meaning.Threads.{further, moved_if}
 use Rattle.lower_forms.specs.Counts.{greatest, greatest_row, count_if}
 use Rattle.lower_forms.specs.Forms as forms
-use Rattle.lower_forms.specs.Forms.{Frame, home, home_or_none, sets, acts, branches, sets_int, sets_truth, Reach, found, direct, indexed, reached, behind, at_temp, member_reach, reach, member_nodes, temps_of, lib_nodes, expr_nodes, place_nodes, args_nodes, ends, with_home, sized_copy, computes, update_by, test_nodes, choose_nodes, stmt_nodes, row_nodes, switch_nodes}
-use Rattle.lower_forms.specs.Programs.{homes_from, registers_of, last_nodes}
+use Rattle.lower_forms.specs.Forms.{Frame, home, home_or_none, among, sets, acts, branches, sets_int, sets_truth, Reach, found, direct, indexed, reached, behind, at_temp, member_reach, reach, member_nodes, temps_of, lib_nodes, expr_nodes, place_nodes, args_nodes, ends, with_home, sized_copy, computes, update_by, test_nodes, choose_nodes, stmt_nodes, row_nodes, switch_nodes}
+use Rattle.lower_forms.specs.Programs.{homes_from, body_frame, registers_of, last_nodes}
 
 -- ---- values and registers
 
@@ -105,12 +105,20 @@ held_in vs i = variable_or_unset (slice_get vs i)
 
 -- ---- where a statement stands
 
+-- the stack objects of these locals
+abbrev pub homes_of : List (Option ℕ) → List ℕ → List ℕ
+homes_of homes [] = []
+homes_of homes (i ∷ is) = with_home (home_or_none (slice_get homes i)) (homes_of homes is)
+
 -- the first register that is free, the flag that a break clears, or none where it leaves a loop, and what the registers of the switches
 -- around hold besides, the last one first: ints
 pub record Around : Type 0 where
   pub first : ℕ
   pub flag : Option ℕ
   pub held : List (ℕ × ℕ)
+  -- the stack objects of the blocks around, up to the function's body, and those of them that the loop around stands in
+  pub around : List ℕ
+  pub outer : List ℕ
 
 abbrev pub with_flag : Option ℕ → ℕ → List (ℕ × ℕ) → List (ℕ × ℕ)
 with_flag None z rest = rest
@@ -124,34 +132,40 @@ abbrev pub stopped : Around → List (ℕ × ℕ)
 stopped a = with_flag a.flag 0 a.held
 
 -- in the body of a function, in a loop, and in a switch of which the label of this number is chosen
-abbrev pub outermost : tree.Func → Around
-outermost f = record { first = length f.locals; flag = None; held = [] }
+abbrev pub outermost : List tree.Layout → tree.Func → Around
+outermost structs f = record { first = length f.locals; flag = None; held = []; around = (body_frame structs f).around; outer = [] }
 
 abbrev pub in_a_loop : Around → Around
-in_a_loop a = record { first = a.first; flag = None; held = running a }
+in_a_loop a = record { first = a.first; flag = None; held = running a; around = a.around; outer = a.around }
 
 abbrev pub in_a_switch : Around → ℕ → Around
-in_a_switch a number = record { first = suc (suc a.first); flag = Some (suc a.first); held = (a.first, number) ∷ running a }
+in_a_switch a number = record { first = suc (suc a.first); flag = Some (suc a.first); held = (a.first, number) ∷ running a; around = a.around; outer = a.outer }
+
+-- in a block that declares locals with these stack objects
+abbrev pub in_a_block : Around → List ℕ → Around
+in_a_block a objects = record { first = a.first; flag = a.flag; held = a.held; around = objects ++ a.around; outer = a.outer }
 
 -- the same as if these registers were of other switches
 abbrev pub halted : Around → Around
-halted a = record { first = a.first; flag = None; held = stopped a }
+halted a = record { first = a.first; flag = None; held = stopped a; around = a.around; outer = a.outer }
 
 -- they hold these ints, and are apart
 abbrev pub Holds : (low high : ℕ) → (ℕ → Held) → List (ℕ × ℕ) → Type 0
 Holds low high tm [] = Unit {0}
 Holds low high tm (x ∷ rest) = (low ≤ x.0) × (x.0 < high) × (tm x.0 ≡ number (num int (pos x.1))) × Holds low x.0 tm rest
 
-pub record Agrees (homes : List (Option ℕ)) (first : ℕ) (held : List (ℕ × ℕ)) (locals : List tree.Local) (vs : List Variable) (tm : ℕ → Held) (ob : ℕ → Option ℕ) : Type 0 where
+pub record Agrees (homes : List (Option ℕ)) (first : ℕ) (held : List (ℕ × ℕ)) (around : List ℕ) (locals : List tree.Local) (vs : List Variable) (tm : ℕ → Held) (ob : ℕ → Option ℕ) : Type 0 where
   pub count : length vs ≡ length locals
   pub low : length locals ≤ first
   pub switches : Holds (length locals) first tm held
   pub register : (i : ℕ) (l : tree.Local) → slice_get locals i ≡ Some l → home_or_none (slice_get homes i) ≡ None → InRegister (access_of_type l.ty) (held_in vs i) (tm i)
   pub block : (i k : ℕ) → home_or_none (slice_get homes i) ≡ Some k → InBlock (held_in vs i) (ob k)
+  -- an object of no block around has ended, or never began
+  pub closed : (k : ℕ) → among around k ≡ false → ob k ≡ None
 
 -- in a call of this function
 abbrev pub AgreesIn : tree.Func → Around → List Variable → (ℕ → Held) → (ℕ → Option ℕ) → Type 0
-AgreesIn f a vs tm ob = Agrees (homes_from 0 f.locals) a.first (running a) f.locals vs tm ob
+AgreesIn f a vs tm ob = Agrees (homes_from 0 f.locals) a.first (running a) a.around f.locals vs tm ob
 
 -- ---- operators
 
@@ -203,11 +217,6 @@ Calls t = (f : tree.Func) → slice_get t.funcs t.main ≡ Some f → 0 < regist
 -- so many nodes are there only where that is so
 abbrev pub Free : tree.Typed → ℕ → Type 0
 Free t m = 0 < m → Calls t
-
--- the stack objects of these locals
-abbrev pub homes_of : List (Option ℕ) → List ℕ → List ℕ
-homes_of homes [] = []
-homes_of homes (i ∷ is) = with_home (home_or_none (slice_get homes i)) (homes_of homes is)
 
 -- what follows the arguments of a call, whose value comes to t, or is dropped
 abbrev pub after_args : (place : ℕ) → Callee → tree.Exprs → (t : ℕ) → Nodes → Nodes
@@ -278,7 +287,7 @@ module _ (t : tree.Typed) (n : ℕ) (f : tree.Func) where
   inside = record { context = context_of t f; params = f.params; result = f.result }
 
   abbrev pub fr : Around → Frame
-  fr a = record { structs = t.structs; homes = homes_from 0 f.locals; first = a.first; flag = a.flag }
+  fr a = record { structs = t.structs; homes = homes_from 0 f.locals; first = a.first; flag = a.flag; around = a.around; outer = a.outer }
 
   pub record LoopIs (l : Loop) : Type 0 where
     pub condition : IfTyped ctx IsScalar l.condition
@@ -301,7 +310,7 @@ module _ (t : tree.Typed) (n : ℕ) (f : tree.Func) where
   -- where a statement stands, what is left to do, the stack objects that end where the loop around is left, the nodes that do it, and
   -- what is behind these
   pub data AtS : Around → Jumps → Todo → List ℕ → Nodes → Position → Type 0 where
-    at_leaves : AtS (outermost f) in_function source.leaves [] (last_nodes (n == t.main) (registers_of f)) position.done
+    at_leaves : AtS (outermost t.structs f) in_function source.leaves [] (last_nodes (n == t.main) (registers_of f)) position.done
     at_row : {a : Around} {io : Jumps} {k : Todo} {left : List ℕ} {r : Nodes} {q : Position} (rest : tree.Stmts) → AreWell inside io rest → Free t (greatest_row rest)
         → AtS a io k left r q → AtS a io (source.then_row rest k) left (row_nodes (fr a) rest left r) q
     at_end : {a : Around} {io : Jumps} {k : Todo} {left : List ℕ} {r : Nodes} {q : Position} (place : ℕ) (is : List ℕ)

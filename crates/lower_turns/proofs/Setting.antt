@@ -17,7 +17,7 @@ use Rattle.struct_ir.specs.Structured.{Position, then_, out_of, end_of}
 use Rattle.struct_ir.specs.Machine.{Point}
 use Rattle.struct_ir.specs.Threads.{Thread}
 use Rattle.struct_ir.specs.meaning.Blocks.{Held, value, Own, object_ended}
-use Rattle.lower_forms.specs.Forms.{Reach, found, Frame}
+use Rattle.lower_forms.specs.Forms.{Reach, found, Frame, home, among}
 use Rattle.lower_forms.specs.Programs.{homes_from, lowered}
 use Rattle.lower_turns.proofs.Relation.{HasKind, Below, Points, Around, running, in_a_loop, halted, AgreesIn, fr, AtE, AtS, at_found, at_inside, at_inner, AllBegin, InCall, Callers, Together}
 use Rattle.lower_turns.proofs.Registers.{below_less, below_then, use_below, agrees_below}
@@ -87,6 +87,10 @@ at_around g a low = record {
   callers = g.callers;
 }
 
+-- the stack object of a local is one of a block around
+abbrev pub IsOpen : Setting → ℕ → Type 0
+IsOpen g i = (k : ℕ) → home (frame g) i ≡ Some k → among g.a.around k ≡ true
+
 -- in a loop, and where a break has cleared the flag around
 abbrev pub looped_in : Setting → Setting
 looped_in g = at_around g (in_a_loop g.a) g.low
@@ -99,7 +103,7 @@ pub start_is : (g : Setting) → length g.f.locals ≤ start g
 start_is g = g.low
 
 pub agrees_on : (g : Setting) (vs : List Variable) (a b : ℕ → Held) (ob : ℕ → Option ℕ) (u : ℕ) → start g ≤ u → Stands g vs a ob → Below u a b → Stands g vs b ob
-agrees_on g vs a b ob u le h w = agrees_below (homes_from 0 g.f.locals) g.a.first (running g.a) g.f.locals vs a b ob h (below_less u (start g) a b le w)
+agrees_on g vs a b ob u le h w = agrees_below (homes_from 0 g.f.locals) g.a.first (running g.a) g.a.around g.f.locals vs a b ob h (below_less u (start g) a b le w)
 
 -- ---- after a value
 

@@ -231,10 +231,10 @@ module _ (g : Setting) (n : ℕ) (low : length g.f.locals ≤ suc (suc (start g)
 
   -- what the registers hold, by what the flag is
   abbrev pub SwitchStands : ℕ → List Variable → (ℕ → Held) → (ℕ → Option ℕ) → Type 0
-  SwitchStands z vs tm ob = Agrees (homes_from 0 g.f.locals) (suc (suc (start g))) ((suc (start g), z) ∷ (start g, n) ∷ running g.a) g.f.locals vs tm ob
+  SwitchStands z vs tm ob = Agrees (homes_from 0 g.f.locals) (suc (suc (start g))) ((suc (start g), z) ∷ (start g, n) ∷ running g.a) g.a.around g.f.locals vs tm ob
 
   pub leaves_switch : (z : ℕ) (vs : List Variable) (tm : ℕ → Held) (ob : ℕ → Option ℕ) → SwitchStands z vs tm ob → Stands g vs tm ob
-  leaves_switch z vs tm ob h = record { count = h.count; low = g.low; switches = h.switches.3.3; register = h.register; block = h.block }
+  leaves_switch z vs tm ob h = record { count = h.count; low = g.low; switches = h.switches.3.3; register = h.register; block = h.block; closed = h.closed }
 
   pub enters_switch : (z : ℕ) (vs : List Variable) (tm : ℕ → Held) (ob : ℕ → Option ℕ) → Stands g vs tm ob → tm (start g) ≡ number (num int (pos n)) → tm (suc (start g)) ≡ number (num int (pos z)) → SwitchStands z vs tm ob
   enters_switch z vs tm ob h e d = record {
@@ -243,6 +243,7 @@ module _ (g : Setting) (n : ℕ) (low : length g.f.locals ≤ suc (suc (start g)
     switches = (omega (arith, g.low), omega arith, d, (g.low, omega arith, e, h.switches));
     register = h.register;
     block = h.block;
+    closed = h.closed;
   }
 
   -- the statements go on

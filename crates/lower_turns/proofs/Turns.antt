@@ -81,7 +81,7 @@ module _ (g : Setting) where
 module _ (g : Setting) where
   -- what is left to do is done alike
   pub goes_s : (a : Around) (low : length g.f.locals ≤ a.first) (io : Jumps) (k : Todo) (left : List ℕ) (r : Nodes) (q : Position) → AtS g.t g.n g.f a io k left r q → GoesS (at_around g a low) io (way_of (here g) k) left r q
-  goes_s _ low _ _ _ _ _ at_leaves = leave_goes (at_around g (outermost g.f) low) refl
+  goes_s _ low _ _ _ _ _ at_leaves = leave_goes (at_around g (outermost g.t.structs g.f) low) refl
   goes_s _ low _ _ _ _ _ (at_row {a} {io} {k} {left} {r} {q} rest well free at) = row_goes (at_around g a low) io (way_of (here g) k) left r q (goes_s a low io k left r q at) rest well free (row_sim (at_around g a low) rest io well free)
   goes_s _ low _ _ _ _ _ (at_end {a} {io} {k} {left} {r} {q} place is at) = end_goes (at_around g a low) io (way_of (here g) k) left r q (goes_s a low io k left r q at) place is
   goes_s _ low _ _ _ _ _ (at_loop {a} {io} {k} {left} {r} {q} place around l is at) =
@@ -210,24 +210,24 @@ a_pointer : tree.Expr
 a_pointer = tree.at 0 (tree.pointer tree.void) tree.null
 
 module _ (t : tree.Typed) (well : IsWellFormed t) (argument : Ptr) where
-  begin_zero : (m : ℕ) (f : tree.Func) (k : ℕ) → k ≡ 0 → AgreesIn f (outermost f) (first_locals f (arguments_if k argument)) (first_temps k argument) (λ i. None)
+  begin_zero : (m : ℕ) (f : tree.Func) (k : ℕ) → k ≡ 0 → AgreesIn f (outermost t.structs f) (first_locals f (arguments_if k argument)) (first_temps k argument) (λ i. None)
   begin_zero m f k e =
-      subst (λ j. AgreesIn f (outermost f) (first_locals f (arguments_if j argument)) (first_temps j argument) (λ i. None)) (sym e)
+      subst (λ j. AgreesIn f (outermost t.structs f) (first_locals f (arguments_if j argument)) (first_temps j argument) (λ i. None)) (sym e)
       (new_agrees t m f 0 tree.no_exprs [] (λ i. code.unset) 0 (tt, tt) tt)
 
   one_temp : (i : ℕ) → first_temps 1 argument i ≡ passed (λ j. value (values.Pointer argument)) (0 ∷ []) i
   one_temp zero = refl
   one_temp (suc i) = refl
 
-  begin_one : (m : ℕ) (f : tree.Func) (k : ℕ) → k ≡ 1 → ParamsAre 1 f.locals (tree.more_exprs a_pointer tree.no_exprs) → AgreesIn f (outermost f) (first_locals f (arguments_if k argument)) (first_temps k argument) (λ i. None)
+  begin_one : (m : ℕ) (f : tree.Func) (k : ℕ) → k ≡ 1 → ParamsAre 1 f.locals (tree.more_exprs a_pointer tree.no_exprs) → AgreesIn f (outermost t.structs f) (first_locals f (arguments_if k argument)) (first_temps k argument) (λ i. None)
   unfolding a_pointer
   begin_one m f k e params =
-      subst (λ j. AgreesIn f (outermost f) (first_locals f (arguments_if j argument)) (first_temps j argument) (λ i. None)) (sym e)
-      (agrees_below (homes_from 0 f.locals) (length f.locals) [] f.locals (first_locals f (values.Pointer argument ∷ [])) (passed (λ j. value (values.Pointer argument)) (0 ∷ [])) (first_temps 1 argument) (λ i. None)
+      subst (λ j. AgreesIn f (outermost t.structs f) (first_locals f (arguments_if j argument)) (first_temps j argument) (λ i. None)) (sym e)
+      (agrees_below (homes_from 0 f.locals) (length f.locals) [] (outermost t.structs f).around f.locals (first_locals f (values.Pointer argument ∷ [])) (passed (λ j. value (values.Pointer argument)) (0 ∷ [])) (first_temps 1 argument) (λ i. None)
       (new_agrees t m f 1 (tree.more_exprs a_pointer tree.no_exprs) (values.Pointer argument ∷ []) (λ j. value (values.Pointer argument)) 0 params (tt, refl, tt)) (λ i lt. one_temp i))
 
   -- a function's first turn, where its locals agree
-  begins_with : (m : ℕ) (f : tree.Func) → slice_get t.funcs m ≡ Some f → f.result ≡ tree.integer int → Free t (registers_of f) → AgreesIn f (outermost f) (first_locals f (arguments_if f.params argument)) (first_temps f.params argument) (λ i. None)
+  begins_with : (m : ℕ) (f : tree.Func) → slice_get t.funcs m ≡ Some f → f.result ≡ tree.integer int → Free t (registers_of f) → AgreesIn f (outermost t.structs f) (first_locals f (arguments_if f.params argument)) (first_temps f.params argument) (λ i. None)
       → Same t (begins_if m argument (slice_get t.funcs m)) ((program_of (lowered t)).begins m argument)
   begins_with m f there gives free agrees =
       let fits = all_at (IsFunc t) t.funcs m f well.funcs there in
