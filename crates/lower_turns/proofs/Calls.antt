@@ -27,6 +27,7 @@ use Rattle.struct_ir.specs.meaning.Threads.{passed, nodes_of, is_plain, turned}
 use Rattle.lower_forms.specs.Forms as forms
 use Rattle.lower_forms.specs.Forms.{home_or_none, temps_of, sets, found}
 use Rattle.lower_forms.specs.Programs.{home_if, next_home, homes_from, func_lowered, funcs_lowered, lowered}
+use Rattle.lower_turns.proofs.Rooms.{whole_room}
 use Rattle.lower_turns.proofs.Relation.{HasKind, InRegister, no_value, one_value, InBlock, no_block, held_in, AgreesIn, outermost, HasValues, Stand, Calls, AtE, AtS, at_leaves, at_row, Callers, one_wants, one_drops, Together, both_went, both_unfit, same, at_begins, after_args, dropped_args}
 use Rattle.lower_turns.proofs.Operands.{fits_access}
 use Rattle.lower_turns.proofs.Steps.{stops_at}
@@ -173,7 +174,7 @@ module _ (g : Setting) (busy : Calls g.t) (vs : List Variable) (ob : ℕ → Opt
         (subst (λ (o : Option Func). Together g.t (enters (here g) m args kw (now g vs b) (Some f)) (turned (if_fits (is_plain g.answer) (went (record { top = record { at = then_ (nodes_of o) done; own = record { function = m; temps = passed tm (temps_of all u); objects = λ i. None; blocks = b } }; callers = record { at = k; own = own g ob tm b } ∷ g.cs' }) (actions.with_blocks g.s b))))) (sym (nth_lowered g.t m f there))
         (plainly_alike g.answer _ _ (actions.with_blocks g.s b)
         (both_went (actions.with_blocks g.s b) g.begun
-        (same (record { there = there; free = λ z. busy }) (new_agrees g.t m f f.params all args tm u params stand) (at_begins (at_row f.body fits.body (λ z. busy) at_leaves)) callers)))))
+        (same (record { there = there; free = λ z. busy }) (new_agrees g.t m f f.params all args tm u params stand) (at_begins (at_row f.body fits.body (whole_room g.t m f) (λ z. busy) at_leaves)) callers)))))
 
     pub enters_alike : (ty : tree.Ty) → ty ≡ f.result → (kw : Wait) (r : Nodes) (q : Position) → WaitIs g ob tm place ty kw u r q
         → Alike g (enters (here g) m args kw (now g vs b) (slice_get g.t.funcs m)) (then_ (nodes_for kw place (function m) all u r) q) (own g ob tm b)

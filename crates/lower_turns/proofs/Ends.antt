@@ -26,8 +26,8 @@ use Rattle.lower_turns.proofs.Relation.{InRegister, no_value, one_value, InBlock
 use Rattle.lower_turns.proofs.Registers.{set_here, set_there}
 use Rattle.lower_turns.proofs.Calls.{nth_lowered}
 use Rattle.lower_turns.proofs.Steps.{onward, ends_object, then_same}
-use Rattle.lower_turns.proofs.Over.{Forgives, over_last, over_twice, over_none, over_forgiven}
-use Rattle.lower_turns.proofs.Setting.{Stands, Setting, here, now, own, Alike, frame, objects_over, Leaves, GoesS, halted_in, at_around}
+use Rattle.lower_turns.proofs.Over.{over_last, over_twice, over_none, over_forgiven}
+use Rattle.lower_turns.proofs.Setting.{Stands, Setting, here, now, own, Alike, frame, objects_over, Leaves, Forgives, GoesS, halted_in, at_around}
 use Rattle.lower_turns.proofs.Objects.{held_here, held_there, object_at, Over, agrees_block, within_locals, end_one, end_register}
 
 -- ---- several blocks end
@@ -59,25 +59,6 @@ module _ (g : Setting) where
     ends_over [] vs b ob agrees = record { vs' = vs; b' = b; ob' = ob; source_is = refl; code_is = refl; agrees' = agrees }
     ends_over (i ∷ is) vs b ob agrees = ends_at i is (ends_over is) vs b ob agrees (home (frame g) i) refl
 
--- the same once the flag around is cleared
-ends_alike : (g : Setting) (finish : Now → Turn Control) (r : Nodes) (q : Position) → ((vs : List Variable) (b : Blocks) (tm : ℕ → Held) (ob : ℕ → Option ℕ) → Stands g vs tm ob → Alike g (finish (now g vs b)) (then_ r q) (own g ob tm b))
-    → (place : ℕ) (is : List ℕ) (vs : List Variable) (b : Blocks) (tm : ℕ → Held) (ob : ℕ → Option ℕ) → Stands g vs tm ob
-    → Alike g (finish (ended_locals is (now g vs b))) (then_ (ends place (homes_of (homes_from 0 g.f.locals) is) r) q) (own g ob tm b)
-ends_alike g finish r q goes place is vs b tm ob h =
-    let o = ends_over g tm is vs b ob h in
-    ends_then g (finish (ended_locals is (now g vs b))) place (homes_of (homes_from 0 g.f.locals) is) r q (own g ob tm b)
-    (subst (λ (x : Now). Alike g (finish x) (then_ r q) (objects_over (homes_of (homes_from 0 g.f.locals) is) (own g ob tm b))) (sym o.source_is)
-    (subst (λ (l : Own). Alike g (finish (now g o.vs' o.b')) (then_ r q) l) (sym o.code_is) (goes o.vs' o.b' tm o.ob' o.agrees')))
-
-ends_leaves : (g : Setting) (w : Way) (left : List ℕ) (r : Nodes) (q : Position) (place : ℕ) (is : List ℕ) (flag : Option ℕ) → Leaves g w left r q flag
-    → Leaves g (end_way is w) (homes_of (homes_from 0 g.f.locals) is ++ left) (ends place (homes_of (homes_from 0 g.f.locals) is) r) q flag
-ends_leaves g w left r q place is None goes = λ vs b tm ob h.
-    let o = ends_over g tm is vs b ob h in
-    subst (λ (l : Own). Alike g (w.breaks (ended_locals is (now g vs b))) (out_of q) l) (sym (over_two (homes_of (homes_from 0 g.f.locals) is) left (own g ob tm b)))
-    (subst (λ (x : Now). Alike g (w.breaks x) (out_of q) (objects_over left (objects_over (homes_of (homes_from 0 g.f.locals) is) (own g ob tm b)))) (sym o.source_is)
-    (subst (λ (l : Own). Alike g (w.breaks (now g o.vs' o.b')) (out_of q) (objects_over left l)) (sym o.code_is) (goes o.vs' o.b' tm o.ob' o.agrees')))
-ends_leaves g w left r q place is (Some flag) goes = λ vs b tm ob h. ends_alike (halted_in g) w.breaks r q goes place is vs b tm ob h
-
 -- ---- a block is left by a break that ends none of its objects but those that are declared around the loop, too
 
 pub over_swap : (is js : List ℕ) (l : Own) → objects_over is (objects_over js l) ≡ objects_over js (objects_over is l)
@@ -100,6 +81,25 @@ among_neither (x ∷ xs) ys k e h = neither_by x xs ys k (λ d. among_neither xs
 abbrev pub blocked_in : Setting → List ℕ → Setting
 blocked_in g os = at_around g (in_a_block g.a os) g.low
 
+-- where it begins
+pub opens_block : (g : Setting) (os : List ℕ) (vs : List Variable) (tm : ℕ → Held) (ob : ℕ → Option ℕ) → Stands g vs tm ob → Stands (blocked_in g os) vs tm ob
+opens_block g os vs tm ob h = record {
+  count = h.count;
+  low = h.low;
+  switches = h.switches;
+  register = h.register;
+  block = h.block;
+  closed = λ k e. h.closed k (outer_by os k e);
+}
+  where
+    outer_one : (x : ℕ) (xs : List ℕ) (k : ℕ) → (among (xs ++ g.a.around) k ≡ false → among g.a.around k ≡ false) → (b : Bool) → (if b then true else among (xs ++ g.a.around) k) ≡ false → among g.a.around k ≡ false
+    outer_one x xs k rest true d = absurd cc
+    outer_one x xs k rest false d = rest d
+
+    outer_by : (xs : List ℕ) (k : ℕ) → among (xs ++ g.a.around) k ≡ false → among g.a.around k ≡ false
+    outer_by [] k e = e
+    outer_by (x ∷ xs) k e = outer_one x xs k (outer_by xs k) (x == k) e
+
 -- behind the block, once they have ended
 pub shut : (g : Setting) (os : List ℕ) (vs : List Variable) (tm : ℕ → Held) (ob : ℕ → Option ℕ) → Stands (blocked_in g os) vs tm ob → ((k : ℕ) → among os k ≡ true → ob k ≡ None) → Stands g vs tm ob
 shut g os vs tm ob h ended = record {
@@ -115,22 +115,43 @@ shut g os vs tm ob h ended = record {
     by k e true d = ended k d
     by k e false d = h.closed k (among_neither os g.a.around k d e)
 
--- where the other objects end next anyway
-pub block_leaves : (g : Setting) (w : Way) (left : List ℕ) (r : Nodes) (q : Position) (place : ℕ) (is : List ℕ)
-    → ((k : ℕ) → among (homes_of (homes_from 0 g.f.locals) is) k ≡ true → among g.a.outer k ≡ false → Forgives (lowered g.t) g.thread g.answer g.cs' g.s (out_of q) k)
-    → Leaves g w left r q None → Leaves (blocked_in g (homes_of (homes_from 0 g.f.locals) is)) (end_way is w) (again g.a.outer (homes_of (homes_from 0 g.f.locals) is) ++ left) (ends place (homes_of (homes_from 0 g.f.locals) is) r) q None
-block_leaves g w left r q place is forgives goes = λ vs b tm ob h.
+-- behind it
+block_ends : (g : Setting) (finish : Now → Turn Control) (r : Nodes) (q : Position) → ((vs : List Variable) (b : Blocks) (tm : ℕ → Held) (ob : ℕ → Option ℕ) → Stands g vs tm ob → Alike g (finish (now g vs b)) (then_ r q) (own g ob tm b))
+    → (place : ℕ) (is : List ℕ) (vs : List Variable) (b : Blocks) (tm : ℕ → Held) (ob : ℕ → Option ℕ) → Stands (blocked_in g (homes_of (homes_from 0 g.f.locals) is)) vs tm ob
+    → Alike g (finish (ended_locals is (now g vs b))) (then_ (ends place (homes_of (homes_from 0 g.f.locals) is) r) q) (own g ob tm b)
+block_ends g finish r q goes place is vs b tm ob h =
     let os : List ℕ = homes_of (homes_from 0 g.f.locals) is in
     let m : Own = own g ob tm b in
     let o = ends_over (blocked_in g os) tm is vs b ob h in
     let stands = shut g os o.vs' tm o.ob' o.agrees' (λ k e. sym (ap (λ (z : Own). z.objects k) o.code_is) ∙ ended_all os m k e) in
-    let same : onward (lowered g.t) g.thread g.answer g.cs' g.s (out_of q) (objects_over (again g.a.outer os ++ left) m) ≡ onward (lowered g.t) g.thread g.answer g.cs' g.s (out_of q) (objects_over left (objects_over os m))
-    = ap (onward (lowered g.t) g.thread g.answer g.cs' g.s (out_of q)) (over_two (again g.a.outer os) left m ∙ over_swap left (again g.a.outer os) m)
-    ∙ sym (over_forgiven (lowered g.t) g.thread g.answer g.cs' g.s g.a.outer os (out_of q) forgives (objects_over left m))
-    ∙ ap (onward (lowered g.t) g.thread g.answer g.cs' g.s (out_of q)) (over_swap os left m) in
-    then_same (lowered g.t) g.thread g.answer g.cs' g.s g.t (w.breaks (ended_locals is (now g vs b))) (out_of q) (out_of q) (objects_over (again g.a.outer os ++ left) m) (objects_over left (objects_over os m)) same
-    (subst (λ (x : Now). Alike g (w.breaks x) (out_of q) (objects_over left (objects_over os m))) (sym o.source_is)
-    (subst (λ (l : Own). Alike g (w.breaks (now g o.vs' o.b')) (out_of q) (objects_over left l)) (sym o.code_is) (goes o.vs' o.b' tm o.ob' stands)))
+    ends_then g (finish (ended_locals is (now g vs b))) place os r q m
+    (subst (λ (x : Now). Alike g (finish x) (then_ r q) (objects_over os m)) (sym o.source_is)
+    (subst (λ (l : Own). Alike g (finish (now g o.vs' o.b')) (then_ r q) l) (sym o.code_is) (goes o.vs' o.b' tm o.ob' stands)))
+
+-- at a position where the other objects end next anyway
+block_left : (g : Setting) (finish : Now → Turn Control) (left : List ℕ) (q : Position) (is : List ℕ)
+    → ((k : ℕ) → among (homes_of (homes_from 0 g.f.locals) is) k ≡ true → among g.a.outer k ≡ false → Forgives g q k)
+    → ((vs : List Variable) (b : Blocks) (tm : ℕ → Held) (ob : ℕ → Option ℕ) → Stands g vs tm ob → Alike g (finish (now g vs b)) q (objects_over left (own g ob tm b)))
+    → (vs : List Variable) (b : Blocks) (tm : ℕ → Held) (ob : ℕ → Option ℕ) → Stands (blocked_in g (homes_of (homes_from 0 g.f.locals) is)) vs tm ob
+    → Alike g (finish (ended_locals is (now g vs b))) q (objects_over (again g.a.outer (homes_of (homes_from 0 g.f.locals) is) ++ left) (own g ob tm b))
+block_left g finish left q is forgives goes vs b tm ob h =
+    let os : List ℕ = homes_of (homes_from 0 g.f.locals) is in
+    let m : Own = own g ob tm b in
+    let o = ends_over (blocked_in g os) tm is vs b ob h in
+    let stands = shut g os o.vs' tm o.ob' o.agrees' (λ k e. sym (ap (λ (z : Own). z.objects k) o.code_is) ∙ ended_all os m k e) in
+    let same : onward (lowered g.t) g.thread g.answer g.cs' g.s q (objects_over (again g.a.outer os ++ left) m) ≡ onward (lowered g.t) g.thread g.answer g.cs' g.s q (objects_over left (objects_over os m))
+    = ap (onward (lowered g.t) g.thread g.answer g.cs' g.s q) (over_two (again g.a.outer os) left m ∙ over_swap left (again g.a.outer os) m)
+    ∙ sym (over_forgiven (lowered g.t) g.thread g.answer g.cs' g.s g.a.outer os q forgives (objects_over left m))
+    ∙ ap (onward (lowered g.t) g.thread g.answer g.cs' g.s q) (over_swap os left m) in
+    then_same (lowered g.t) g.thread g.answer g.cs' g.s g.t (finish (ended_locals is (now g vs b))) q q (objects_over (again g.a.outer os ++ left) m) (objects_over left (objects_over os m)) same
+    (subst (λ (x : Now). Alike g (finish x) q (objects_over left (objects_over os m))) (sym o.source_is)
+    (subst (λ (l : Own). Alike g (finish (now g o.vs' o.b')) q (objects_over left l)) (sym o.code_is) (goes o.vs' o.b' tm o.ob' stands)))
+
+block_leaves : (g : Setting) (w : Way) (left : List ℕ) (r : Nodes) (q : Position) (place : ℕ) (is : List ℕ) (flag : Option ℕ)
+    → (flag ≡ None → (k : ℕ) → among (homes_of (homes_from 0 g.f.locals) is) k ≡ true → among g.a.outer k ≡ false → Forgives g (out_of q) k) → Leaves g w left r q flag
+    → Leaves (blocked_in g (homes_of (homes_from 0 g.f.locals) is)) (end_way is w) (again g.a.outer (homes_of (homes_from 0 g.f.locals) is) ++ left) (ends place (homes_of (homes_from 0 g.f.locals) is) r) q flag
+block_leaves g w left r q place is None forgives goes = block_left g w.breaks left (out_of q) is (forgives refl) goes
+block_leaves g w left r q place is (Some flag) forgives goes = λ vs b tm ob h. block_ends (halted_in g) w.breaks r q goes place is vs b tm ob h
 
 -- where a loop is left by its condition, and before its step: none of these objects has a block, so their Ends do nothing
 pub none_left : (g : Setting) (vs : List Variable) (b : Blocks) (tm : ℕ → Held) (ob : ℕ → Option ℕ) → Stands g vs tm ob → (place : ℕ) (os : List ℕ) → ((k : ℕ) → among os k ≡ true → among g.a.around k ≡ false) → (x : Turn Control) (r : Nodes) (q : Position)
@@ -140,30 +161,16 @@ none_left g vs b tm ob h place os apart x r q goes =
 
 -- a block's locals end behind it, and on every way out
 pub end_goes : (g : Setting) (io : Jumps) (w : Way) (left : List ℕ) (r : Nodes) (q : Position) → GoesS g io w left r q → (place : ℕ) (is : List ℕ)
-    → GoesS g io (end_way is w) (homes_of (homes_from 0 g.f.locals) is ++ left) (ends place (homes_of (homes_from 0 g.f.locals) is) r) q
-end_goes g io w left r q goes place is = record {
-  at = at_end place is goes.at;
-  end = λ vs b tm ob h. ends_alike g w.end r q goes.end place is vs b tm ob h;
-  breaks = λ e. ends_leaves g w left r q place is g.a.flag (goes.breaks e);
-  continues = λ e vs b tm ob h.
-      let o = ends_over g tm is vs b ob h in
-      subst (λ (l : Own). Alike g (w.continues (ended_locals is (now g vs b))) (end_of q) l) (sym (over_two (homes_of (homes_from 0 g.f.locals) is) left (own g ob tm b)))
-      (subst (λ (x : Now). Alike g (w.continues x) (end_of q) (objects_over left (objects_over (homes_of (homes_from 0 g.f.locals) is) (own g ob tm b)))) (sym o.source_is)
-      (subst (λ (l : Own). Alike g (w.continues (now g o.vs' o.b')) (end_of q) (objects_over left l)) (sym o.code_is) (goes.continues e o.vs' o.b' tm o.ob' o.agrees')));
+    → ((k : ℕ) → among (homes_of (homes_from 0 g.f.locals) is) k ≡ true → among g.a.outer k ≡ false → g.a.over k ≡ true)
+    → GoesS (blocked_in g (homes_of (homes_from 0 g.f.locals) is)) io (end_way is w) (again g.a.outer (homes_of (homes_from 0 g.f.locals) is) ++ left) (ends place (homes_of (homes_from 0 g.f.locals) is) r) q
+end_goes g io w left r q goes place is covers = record {
+  at = at_end place is covers goes.at;
+  end = λ vs b tm ob h. block_ends g w.end r q goes.end place is vs b tm ob h;
+  breaks = λ e. block_leaves g w left r q place is g.a.flag (λ none k h apart. goes.over_breaks e none k (covers k h apart)) (goes.breaks e);
+  continues = λ e. block_left g w.continues left (end_of q) is (λ k h apart. goes.over_nexts e k (covers k h apart)) (goes.continues e);
+  over_breaks = goes.over_breaks;
+  over_nexts = goes.over_nexts;
 }
-
--- the stack objects of a block are those of the locals that it declares
-pub objects_are : (fr : Frame) (body : tree.Stmts) → homes_of fr.homes (declared body) ≡ objects_in fr body
-objects_are fr tree.no_stmts = refl
-objects_are fr (tree.more_stmts (tree.at_stmt place node) rest) = by_form fr node (declared rest) (objects_in fr rest) (objects_are fr rest)
-  where
-    by_form : (fr : Frame) (node : tree.StmtNode) (is os : List ℕ) → homes_of fr.homes is ≡ os → homes_of fr.homes (with_declared node is) ≡ with_home (home_in fr node) os
-    by_form fr (tree.declare i init) is os e = ap (with_home (home fr i)) e
-    by_form fr node is os e = e
-
-pub first_objects : (fr : Frame) (s : tree.Stmt) → homes_of fr.homes (declared_by s []) ≡ objects_by fr s []
-first_objects fr (tree.at_stmt place (tree.declare i init)) = refl
-first_objects fr (tree.at_stmt place node) = refl
 
 -- ---- a block begins
 

@@ -193,6 +193,8 @@ module _ (g : Setting) where
     end = λ vs b tm ob agrees. last_at vs tm ob b agrees (g.n == g.t.main) (registers_of g.f) refl refl;
     breaks = λ z. absurd cc;
     continues = λ z. absurd cc;
+    over_breaks = λ z. absurd cc;
+    over_nexts = λ z. absurd cc;
   }
 
   -- a value is returned, or none

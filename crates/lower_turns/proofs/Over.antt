@@ -9,7 +9,8 @@ use Rattle.struct_ir.specs.Nodes.{Nodes, Ir}
 use Rattle.struct_ir.specs.Structured.{Position, then_}
 use Rattle.struct_ir.specs.Machine.{Point}
 use Rattle.struct_ir.specs.meaning.Blocks.{Held, Own, set_at, without, object_ended}
-use Rattle.lower_forms.specs.Forms.{ends, among, fresh, again}
+use Rattle.lower_forms.specs.Forms.{ends, among, again}
+use Rattle.lower_turns.proofs.Rooms.{same_object, among_first, among_later}
 use Rattle.lower_turns.proofs.Registers.{set_here, set_there}
 use Rattle.lower_turns.proofs.Objects.{by_same}
 use Rattle.lower_turns.proofs.Steps.{onward, ends_object}
@@ -72,9 +73,6 @@ pub over_last : (is : List ℕ) (l : Own) (k : ℕ) → objects_over is (object_
 over_last [] l k = refl
 over_last (i ∷ is) l k = ap (objects_over is) (ended_two l k i) ∙ over_last is (object_ended l i) k
 
-same_object : (i k : ℕ) → (i == k) ≡ true → i ≡ k
-same_object i k e = grind (arith, nat_tests)
-
 -- one of them has ended already
 twice_by : (i : ℕ) (is : List ℕ) (l : Own) (k : ℕ) → ((m : Own) → among is k ≡ true → objects_over is (object_ended m k) ≡ objects_over is m) → (b : Bool) → (i == k) ≡ b → (if b then true else among is k) ≡ true
     → objects_over (i ∷ is) (object_ended l k) ≡ objects_over (i ∷ is) l
@@ -85,45 +83,6 @@ pub over_twice : (is : List ℕ) (l : Own) (k : ℕ) → among is k ≡ true →
 over_twice [] l k e = absurd cc
 over_twice (i ∷ is) l k e = twice_by i is l k (λ m h. over_twice is m k h) (i == k) refl e
 
--- the first of a row is among it, and each of the others
-here_by : (b r : Bool) → b ≡ true → (if b then true else r) ≡ true
-here_by true r e = refl
-here_by false r e = absurd cc
-
-later_by : (b r : Bool) → r ≡ true → (if b then true else r) ≡ true
-later_by true r e = refl
-later_by false r e = e
-
-pub among_first : (i : ℕ) (is : List ℕ) → among (i ∷ is) i ≡ true
-among_first i is = here_by (i == i) (among is i) (grind (arith, nat_tests))
-
-pub among_later : (i : ℕ) (is : List ℕ) (k : ℕ) → among is k ≡ true → among (i ∷ is) k ≡ true
-among_later i is k e = later_by (i == k) (among is k) e
-
--- ---- those that aren't declared around the loop, too
-
-fresh_by : (outer : List ℕ) (i : ℕ) (is : List ℕ) (k : ℕ) → (among is k ≡ true → among outer k ≡ false → among (fresh outer is) k ≡ true) → (b : Bool) → among outer i ≡ b → (c : Bool) → (i == k) ≡ c → (if c then true else among is k) ≡ true → among outer k ≡ false
-    → among (if b then fresh outer is else i ∷ fresh outer is) k ≡ true
-fresh_by outer i is k rest true d true e h g = let c : true ≡ false = sym d ∙ ap (among outer) (same_object i k e) ∙ g in absurd cc
-fresh_by outer i is k rest true d false e h g = rest h g
-fresh_by outer i is k rest false d true e h g = here_by (i == k) (among (fresh outer is) k) e
-fresh_by outer i is k rest false d false e h g = later_by (i == k) (among (fresh outer is) k) (rest h g)
-
--- each of them is there
-pub among_fresh : (outer is : List ℕ) (k : ℕ) → among is k ≡ true → among outer k ≡ false → among (fresh outer is) k ≡ true
-among_fresh outer [] k h g = absurd cc
-among_fresh outer (i ∷ is) k h g = fresh_by outer i is k (among_fresh outer is k) (among outer i) refl (i == k) refl h g
-
-apart_by : (outer : List ℕ) (i : ℕ) (is : List ℕ) (k : ℕ) → (among (fresh outer is) k ≡ true → among outer k ≡ false) → (b : Bool) → among outer i ≡ b → (c : Bool) → (i == k) ≡ c → among (if b then fresh outer is else i ∷ fresh outer is) k ≡ true → among outer k ≡ false
-apart_by outer i is k rest true d c e h = rest h
-apart_by outer i is k rest false d true e h = ap (among outer) (sym (same_object i k e)) ∙ d
-apart_by outer i is k rest false d false e h = rest (sym (ap (λ (z : Bool). if z then true else among (fresh outer is) k) e) ∙ h)
-
--- and none of them is declared around the loop
-pub fresh_apart : (outer is : List ℕ) (k : ℕ) → among (fresh outer is) k ≡ true → among outer k ≡ false
-fresh_apart outer [] k h = absurd cc
-fresh_apart outer (i ∷ is) k h = apart_by outer i is k (fresh_apart outer is k) (among outer i) refl (i == k) refl h
-
 -- none of them has a block
 pub over_none : (is : List ℕ) (l : Own) → ((k : ℕ) → among is k ≡ true → l.objects k ≡ None) → objects_over is l ≡ l
 over_none [] l none = refl
@@ -133,28 +92,28 @@ over_none (i ∷ is) l none = ap (objects_over is) (ended_none l i (none i (amon
 
 module _ (p : Ir) (thread : ℕ) (answer : Answer) (callers : List (Point Position Own)) (s : World) where
   -- at this position an object that hasn't ended yet makes no difference
-  abbrev pub Forgives : Position → ℕ → Type 0
-  Forgives q k = (l : Own) → onward p thread answer callers s q (object_ended l k) ≡ onward p thread answer callers s q l
+  abbrev pub Forgiven : Position → ℕ → Type 0
+  Forgiven q k = (l : Own) → onward p thread answer callers s q (object_ended l k) ≡ onward p thread answer callers s q l
 
   pub ends_over_step : (place : ℕ) (is : List ℕ) (r : Nodes) (q : Position) (l : Own) → onward p thread answer callers s (then_ (ends place is r) q) l ≡ onward p thread answer callers s (then_ r q) (objects_over is l)
   ends_over_step place [] r q l = refl
   ends_over_step place (i ∷ is) r q l = ends_object p thread answer callers s place i (ends place is r) q l ∙ ends_over_step place is r q (object_ended l i)
 
   -- where these end next, any of them may have ended already
-  pub ends_forgive : (place : ℕ) (is : List ℕ) (r : Nodes) (q : Position) (k : ℕ) → among is k ≡ true → Forgives (then_ (ends place is r) q) k
+  pub ends_forgive : (place : ℕ) (is : List ℕ) (r : Nodes) (q : Position) (k : ℕ) → among is k ≡ true → Forgiven (then_ (ends place is r) q) k
   ends_forgive place is r q k e l =
       ends_over_step place is r q (object_ended l k)
       ∙ ap (onward p thread answer callers s (then_ r q)) (over_twice is l k e)
       ∙ sym (ends_over_step place is r q l)
 
-  forgiven_by : (outer : List ℕ) (i : ℕ) (is : List ℕ) (q : Position) (l : Own) → (among outer i ≡ false → Forgives q i)
+  forgiven_by : (outer : List ℕ) (i : ℕ) (is : List ℕ) (q : Position) (l : Own) → (among outer i ≡ false → Forgiven q i)
       → ((m : Own) → onward p thread answer callers s q (objects_over is m) ≡ onward p thread answer callers s q (objects_over (again outer is) m)) → (b : Bool) → among outer i ≡ b
       → onward p thread answer callers s q (objects_over is (object_ended l i)) ≡ onward p thread answer callers s q (objects_over (if b then i ∷ again outer is else again outer is) l)
   forgiven_by outer i is q l f rest true e = rest (object_ended l i)
   forgiven_by outer i is q l f rest false e = ap (onward p thread answer callers s q) (over_last is l i) ∙ f e (objects_over is l) ∙ rest l
 
   -- so all of these but those that are declared around the loop, too
-  pub over_forgiven : (outer is : List ℕ) (q : Position) → ((k : ℕ) → among is k ≡ true → among outer k ≡ false → Forgives q k) → (l : Own)
+  pub over_forgiven : (outer is : List ℕ) (q : Position) → ((k : ℕ) → among is k ≡ true → among outer k ≡ false → Forgiven q k) → (l : Own)
       → onward p thread answer callers s q (objects_over is l) ≡ onward p thread answer callers s q (objects_over (again outer is) l)
   over_forgiven outer [] q f l = refl
   over_forgiven outer (i ∷ is) q f l =

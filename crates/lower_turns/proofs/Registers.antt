@@ -99,9 +99,9 @@ module _ (t : tree.Typed) (n : ℕ) (f : tree.Func) (ob : ℕ → Option ℕ) (a
   use_below c _ _ _ _ _ _ (at_update_read place x right op to by via rch h scalar can kind e at) g =
       at_update_read place x right op to by via rch (reaches_below a b via _ to h (below_less _ _ a b (omega arith) g)) scalar can kind (g (behind via _) (omega arith) ∙ e) at
   use_below _ _ _ _ _ _ _ (at_update_local place i l x right op rch e h same scalar can at) g = at_update_local place i l x right op rch e h same scalar can at
-  use_below _ _ _ _ _ _ _ (at_if place one other lh rch w1 w2 at) g = at_if place one other lh rch w1 w2 at
-  use_below _ _ _ _ _ _ _ (at_loop_test place l lh rch is at) g = at_loop_test place l lh rch is at
-  use_below _ _ _ _ _ _ _ (at_switch_test place labels body s rch all few well free at) g = at_switch_test place labels body s rch all few well free at
+  use_below _ _ _ _ _ _ _ (at_if place one other lh rch w1 w2 m1 m2 at) g = at_if place one other lh rch w1 w2 m1 m2 at
+  use_below _ _ _ _ _ _ _ (at_loop_test place site l lh rch is at) g = at_loop_test place site l lh rch is at
+  use_below _ _ _ _ _ _ _ (at_switch_test place labels body s rch all few well room free at) g = at_switch_test place labels body s rch all few well room free at
   use_below _ _ _ _ _ _ _ (at_caller place rch) g = at_caller place rch
   use_below _ _ _ _ _ _ _ (at_nowhere how rch at) g = at_nowhere how rch at
   use_below _ _ _ _ _ _ _ (at_inside at) g = at_inside (use_below _ _ _ _ _ _ _ at g)
