@@ -14,13 +14,13 @@ use Rattle.c_tree.specs.TypedLayout.{size_in}
 use Rattle.c_meaning.specs.Values.{access_of_type}
 use Rattle.c_meaning.specs.Control as source
 use Rattle.c_meaning.specs.Control.{Variable, Control}
-use Rattle.c_meaning.specs.Turns.{Now, Way, end_way, ended_local, ended_locals, without_block, without_blocks, with_block, made_local, declared_in, local_at, size_of_local, declared, with_declared, declared_by}
+use Rattle.c_meaning.specs.Turns.{Now, Way, end_way, ended_local, ended_locals, without_block, without_blocks, with_block, made_local, declared_in, local_at, size_of_local}
 use Rattle.struct_ir.specs.Nodes.{Nodes, StackObject, Func}
 use Rattle.struct_ir.specs.Structured.{Position, then_, out_of, end_of}
 use Rattle.struct_ir.specs.meaning.Blocks as code
 use Rattle.struct_ir.specs.meaning.Blocks.{Held, Own, set_at, without, object_ended, all_ended, begun, begun_after, size_of}
 use Rattle.struct_ir.specs.meaning.Threads.{over}
-use Rattle.lower_forms.specs.Forms.{Frame, home, home_or_none, among, again, with_home, ends, objects_in, objects_by, home_in}
+use Rattle.lower_forms.specs.Forms.{home, home_or_none, among, again, with_home, ends}
 use Rattle.lower_forms.specs.Programs.{home_if, next_home, homes_from, object_of, with_object, objects_of, lowered}
 use Rattle.lower_turns.proofs.Relation.{InRegister, no_value, one_value, InBlock, no_block, one_block, held_in, homes_of, at_end, in_a_block}
 use Rattle.lower_turns.proofs.Registers.{set_here, set_there}

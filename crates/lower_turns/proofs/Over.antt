@@ -1,14 +1,13 @@
 -- Objects that end once behind a loop: one that has ended before, or never began, counts nowhere.
-use Rattle.std.proofs.Common.{◌≡◌, ◌≢◌, ℕ, zero, suc, ◌==◌, Bool, true, false, List, [], ◌∷◌, ◌++◌, set, Option, Some, None, refl, sym, ap, subst, ◌∙◌, arith, if◌then◌else◌}
+use Rattle.std.proofs.Common.{◌≡◌, ℕ, zero, suc, ◌==◌, Bool, true, false, List, [], ◌∷◌, set, Option, Some, None, refl, sym, ap, subst, ◌∙◌, if◌then◌else◌}
 use mathlib.Core.Path.{fun_ext}
-use Rattle.std.proofs.lemmas.Bool.Decides.{nat_tests}
 use Rattle.block_store.specs.declared.values.Answer.{Answer}
 use Rattle.block_store.specs.Actions.{World}
-use Rattle.block_store.specs.Blocks.{Blocks, Block, ended}
+use Rattle.block_store.specs.Blocks.{Blocks}
 use Rattle.struct_ir.specs.Nodes.{Nodes, Ir}
 use Rattle.struct_ir.specs.Structured.{Position, then_}
 use Rattle.struct_ir.specs.Machine.{Point}
-use Rattle.struct_ir.specs.meaning.Blocks.{Held, Own, set_at, without, object_ended}
+use Rattle.struct_ir.specs.meaning.Blocks.{Own, set_at, without, object_ended}
 use Rattle.lower_forms.specs.Forms.{ends, among, again}
 use Rattle.lower_turns.proofs.Rooms.{same_object, among_first, among_later}
 use Rattle.lower_turns.proofs.Registers.{set_here, set_there}

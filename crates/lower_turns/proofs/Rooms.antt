@@ -147,9 +147,14 @@ mutual
   jumps_by f j i (tree.block body) h b n = jumps_among f j i body h b n
   jumps_by f j i (tree.declare k init) h b n = h
   jumps_by f j i (tree.if_ e one) h b n = (h.0, h.1, by_jumps f j i one h.2 b n, h.3)
-  jumps_by f j i (tree.if_else e one other) h b n =
-      (h.0, h.1, by_jumps f j i one h.2 (λ z. b (here_by (breaks_in one) (breaks_in other) z)) (λ z. n (here_by (nexts_in one) (nexts_in other) z)), h.3,
-      by_jumps f j i other h.4 (λ z. b (later_by (breaks_in one) (breaks_in other) z)) (λ z. n (later_by (nexts_in one) (nexts_in other) z)), h.5)
+  jumps_by f j i (tree.if_else e one other) h b n = (
+    h.0,
+    h.1,
+    by_jumps f j i one h.2 (λ z. b (here_by (breaks_in one) (breaks_in other) z)) (λ z. n (here_by (nexts_in one) (nexts_in other) z)),
+    h.3,
+    by_jumps f j i other h.4 (λ z. b (later_by (breaks_in one) (breaks_in other) z)) (λ z. n (later_by (nexts_in one) (nexts_in other) z)),
+    h.5,
+  )
   jumps_by f j i (tree.while_ e body) h b n = h
   jumps_by f j i (tree.for_ first e step body) h b n = (no_jump f j i first h.1 h.0, h.1, h.2, no_jump f j i step (step_first step h.4) h.3, h.4, h.5, h.6)
   jumps_by f j i (tree.do_while body e) h b n = h
@@ -164,9 +169,10 @@ mutual
 
   jumps_among : (f : Inside) (j i : Jumps) (all : tree.Stmts) → AreWell f j all → (breaks_among all ≡ true → i.breaks ≡ true) → (nexts_among all ≡ true → i.continues ≡ true) → AreWell f i all
   jumps_among f j i tree.no_stmts h b n = tt
-  jumps_among f j i (tree.more_stmts s rest) h b n =
-      (by_jumps f j i s h.0 (λ z. b (here_by (breaks_in s) (breaks_among rest) z)) (λ z. n (here_by (nexts_in s) (nexts_among rest) z)),
-      jumps_among f j i rest h.1 (λ z. b (later_by (breaks_in s) (breaks_among rest) z)) (λ z. n (later_by (nexts_in s) (nexts_among rest) z)))
+  jumps_among f j i (tree.more_stmts s rest) h b n = (
+    by_jumps f j i s h.0 (λ z. b (here_by (breaks_in s) (breaks_among rest) z)) (λ z. n (here_by (nexts_in s) (nexts_among rest) z)),
+    jumps_among f j i rest h.1 (λ z. b (later_by (breaks_in s) (breaks_among rest) z)) (λ z. n (later_by (nexts_in s) (nexts_among rest) z)),
+  )
 
 -- ---- what is declared
 
@@ -258,9 +264,10 @@ module _ (t : tree.Typed) (n : ℕ) (f : tree.Func) where
       (λ k e apart. room.0 k (among_right (held_by (bare t n f) node) (held_in (bare t n f) rest) k e) apart, λ k e. room.1 k (part_rest homes node (declared rest) k e))
 
   pub body_room : (a : Around) (l : Loop) → LoopIs t n f l → RoomOf t n f (in_the_body t n f a l) l.body
-  body_room a l is =
-      (λ k e apart. among_fresh a.around (held (looped (fr t n f a)) l.body) k (subst (λ z. among z k ≡ true) (same_held (bare t n f) (looped (fr t n f a)) refl l.body) e) apart,
-      no_opens (in_the_body t n f a l) (declared_by l.body []) is.body_declares)
+  body_room a l is = (
+    λ k e apart. among_fresh a.around (held (looped (fr t n f a)) l.body) k (subst (λ z. among z k ≡ true) (same_held (bare t n f) (looped (fr t n f a)) refl l.body) e) apart,
+    no_opens (in_the_body t n f a l) (declared_by l.body []) is.body_declares,
+  )
 
   pub step_room : (a : Around) (l : Loop) → LoopIs t n f l → RoomOf t n f (in_the_step t n f a) l.step
   step_room a l is =
@@ -268,6 +275,7 @@ module _ (t : tree.Typed) (n : ℕ) (f : tree.Func) where
 
   -- the body of a function
   pub whole_room : RoomRow t n f (outermost t.structs f) f.body
-  whole_room =
-      (λ k e apart. refl,
-      λ k e. among_left (objects_in (frame_of t.structs f) f.body) [] k (subst (λ z. among z k ≡ true) (objects_are (frame_of t.structs f) f.body) e))
+  whole_room = (
+    λ k e apart. refl,
+    λ k e. among_left (objects_in (frame_of t.structs f) f.body) [] k (subst (λ z. among z k ≡ true) (objects_are (frame_of t.structs f) f.body) e),
+  )

@@ -9,7 +9,7 @@ use Rattle.block_store.specs.Blocks.{Blocks}
 use Rattle.c_tree.specs.Typed as tree
 use Rattle.c_tree.specs.TypedForm.{Jumps, in_function, in_loop, in_switch, IsSwitched, IsLabel, stmts_count, IsScalar, IsTyped, IsTypedNode, Converts, IsLocal, IsFunc, type_of_result, AreArguments, Signature, signature_of, IsWell, IsWellNode, AreWell, IsFirst, IsStep}
 use Rattle.c_meaning.specs.Values.{access_of_type, is_scalar}
-use Rattle.c_meaning.specs.Control.{Variable, Loop, dropped, function, library}
+use Rattle.c_meaning.specs.Control.{Variable, dropped, function, library}
 use Rattle.c_meaning.specs.Turns.{Way, run, run_node, run_place_node, run_dropped, run_dropped_node, drops_object, nowhere_way, caller_way, returns, if_way, end_way, loop_way, row_way, run_stmt, run_stmt_node, run_row, while_loop, for_loop, do_loop, leaving, switch_way, switch_test_way, run_from, nothing, declared, declared_by, with_declared, declares}
 use Rattle.struct_ir.specs.Nodes as ir
 use Rattle.struct_ir.specs.Nodes.{Nodes, no_nodes, more_nodes}
