@@ -12,6 +12,10 @@ pub struct Frame<'a> {
     pub first_temp: u32,
     /// The flag of the switch that a break leaves, or none where it leaves a loop.
     pub flag: Option<u32>,
+    /// The stack objects of the blocks around, up to the function's body.
+    pub around: &'a [u32],
+    /// Those of them that the loop around stands in.
+    pub outer: &'a [u32],
 }
 
 /// How an object is reached once the pointer to it is in a register.
