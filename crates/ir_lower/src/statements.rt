@@ -283,31 +283,35 @@ pub fn joined(alloc: Global, own: &[u32], left: &[u32]) -> Result<Vec<u32>, NoMe
 }
 
 // What stays the same in a loop.
-fn in_loop<'a>(f: &Frame<'a>) -> Frame<'a>
-    ensures { frame_view result ≡ looped (frame_view f.now) }
+fn in_loop<'a>(alloc: Global, f: &Frame<'a>) -> Result<Frame<'a>, NoMemory>
+    ensures { IfOk result (λ g. frame_view g ≡ looped (frame_view f.now)) }
 {
-    Frame {
+    Ok(Frame {
         structs: f.structs,
         homes: f.homes,
         first_temp: f.first_temp,
         flag: None,
-        around: f.around,
-        outer: f.around,
-    }
+        around: f.around.to_vec(alloc)?,
+        outer: f.around.to_vec(alloc)?,
+    })
 }
 
-/// What stays the same in a block, where these objects are those of the blocks around.
-pub fn opened<'a>(f: &Frame<'a>, around: &'a [u32]) -> Frame<'a>
-    ensures { (objects : List ℕ) → around.now ≡ objects ++ f.now.around.now → frame_view result ≡ opened (frame_view f.now) objects }
+/// What stays the same in a block that has these objects.
+///
+/// # Errors
+///
+/// Only want of memory.
+pub fn opened<'a>(alloc: Global, f: &Frame<'a>, own: &[u32]) -> Result<Frame<'a>, NoMemory>
+    ensures { IfOk result (λ g. frame_view g ≡ opened (frame_view f.now) own.now) }
 {
-    Frame {
+    Ok(Frame {
         structs: f.structs,
         homes: f.homes,
         first_temp: f.first_temp,
         flag: f.flag,
-        around,
-        outer: f.outer,
-    }
+        around: joined(alloc, own, &f.around)?,
+        outer: f.outer.to_vec(alloc)?,
+    })
 }
 
 // Out of a loop and back: its rounds, and what ends before its step and behind it.
@@ -390,8 +394,8 @@ fn stmt(
         StmtNode::Declare(n, init) => declares(alloc, f, s.place, *n, init, out),
         StmtNode::If(e, one, None) => if_alone(alloc, one, e, f, left, out),
         StmtNode::If(e, one, Some(other)) => if_else(alloc, one, other, e, f, left, out),
-        StmtNode::While(e, body) => while_loop(alloc, body, s.place, e, &in_loop(f), out),
-        StmtNode::DoWhile(body, e) => do_loop(alloc, body, s.place, e, &in_loop(f), out),
+        StmtNode::While(e, body) => while_loop(alloc, body, s.place, e, &in_loop(alloc, f)?, out),
+        StmtNode::DoWhile(body, e) => do_loop(alloc, body, s.place, e, &in_loop(alloc, f)?, out),
         StmtNode::Switch(e, labels, body) => {
             switch(alloc, body, s.place, e, labels, f, left, out)
         }
@@ -430,10 +434,10 @@ fn block(
     ensures { OnOk result ((rest : Nodes) → followed out.new.items rest ≡ followed out.old.items (row_nodes (opened (frame_view f.now) (objects_in (frame_view f.now) (stmts_of (map stmt_view body.now)))) (stmts_of (map stmt_view body.now)) (again (frame_view f.now).outer (objects_in (frame_view f.now) (stmts_of (map stmt_view body.now))) ++ left.now) (ends at (objects_in (frame_view f.now) (stmts_of (map stmt_view body.now))) rest))) }
 {
     let own = objects_in(alloc, f, body)?;
-    let around = joined(alloc, &own, f.around)?;
-    let twice = again(alloc, f.outer, &own)?;
+    let inner = opened(alloc, f, &own)?;
+    let twice = again(alloc, &f.outer, &own)?;
     let ended = joined(alloc, &twice, left)?;
-    row(alloc, body, &opened(f, &around), &ended, out)?;
+    row(alloc, body, &inner, &ended, out)?;
     ends(out, at, &own)
 }
 
@@ -505,10 +509,9 @@ fn for_loop(
     ensures { OnOk result ((rest : Nodes) → followed out.new.items rest ≡ followed out.old.items (stmt_nodes (opened (frame_view f.now) (objects_by (frame_view f.now) (stmt_view first.now) [])) (stmt_view first.now) left.now (loop_nodes (looped (opened (frame_view f.now) (objects_by (frame_view f.now) (stmt_view first.now) []))) at (stmt_view body.now) (test_nodes (looped (opened (frame_view f.now) (objects_by (frame_view f.now) (stmt_view first.now) []))) (optional_expr_view e.now) (stmt_nodes (looped (opened (frame_view f.now) (objects_by (frame_view f.now) (stmt_view first.now) []))) (stmt_view body.now) [] no_nodes)) (stmt_nodes (looped (opened (frame_view f.now) (objects_by (frame_view f.now) (stmt_view first.now) []))) (stmt_view step.now) [] no_nodes) (ends at (objects_by (frame_view f.now) (stmt_view first.now) []) rest)))) }
 {
     let own = object_by(alloc, f, first)?;
-    let around = joined(alloc, &own, f.around)?;
-    let inner = opened(f, &around);
+    let inner = opened(alloc, f, &own)?;
     stmt(alloc, first, &inner, left, out)?;
-    for_rounds(alloc, body, step, at, e, &in_loop(&inner), out)?;
+    for_rounds(alloc, body, step, at, e, &in_loop(alloc, &inner)?, out)?;
     ends(out, at, &own)
 }
 
@@ -589,8 +592,8 @@ fn switch(
         homes: f.homes,
         first_temp,
         flag: Some(flag),
-        around: f.around,
-        outer: f.outer,
+        around: f.around.to_vec(alloc)?,
+        outer: f.outer.to_vec(alloc)?,
     };
     cases(alloc, body, at, chosen, flag, labels, &inner, left, out)
 }
