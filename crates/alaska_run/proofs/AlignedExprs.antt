@@ -4,7 +4,7 @@ use Rattle.ak_words.specs.declared.int_type.IntType.{IntType}
 use Rattle.c_tree.specs.Typed as tree
 use Rattle.struct_ir.specs.Nodes.{Nodes, no_nodes, convert}
 use Rattle.struct_ir.specs.meaning.Blocks.{same_type}
-use Rattle.lower_forms.specs.Forms.{Frame, home, local_value, local_place, sets, number_type, becomes, converts, lib_nodes, expr_nodes, value_nodes, place_nodes, object_place, args_nodes}
+use Rattle.lower_forms.specs.Forms.{Frame, home, local_value, local_place, sets, number_type, converts_number, converts, lib_nodes, expr_nodes, value_nodes, place_nodes, object_place, args_nodes}
 use Rattle.alaska_run.proofs.AlignedRows.{AreAligned}
 
 -- ---- parts of expressions
@@ -17,7 +17,7 @@ local_place_aligned : (place n t : ℕ) (o : Option ℕ) (rest : Nodes) → AreA
 local_place_aligned place n t None rest g = (tt, g)
 local_place_aligned place n t (Some object) rest g = (tt, (tt, g))
 
-pub becomes_aligned : (place : ℕ) (s u : IntType) (t : ℕ) (rest : Nodes) → AreAligned rest → AreAligned (becomes place s u t rest)
+pub becomes_aligned : (place : ℕ) (s u : IntType) (t : ℕ) (rest : Nodes) → AreAligned rest → AreAligned (converts_number place s u t rest)
 becomes_aligned place s u t rest g = by_type (same_type s u)
   where
     by_type : (same : Bool) → AreAligned (if same then rest else sets place t (convert u t) rest)

@@ -7,7 +7,7 @@ use Rattle.struct_ir.specs.Instrs.{LinearCode}
 use Rattle.ak_trace.specs.declared.endings.End.{End}
 use Rattle.flat_rules.specs.declared.settings.Settings.{Settings}
 use Rattle.flat_rules.specs.Rules.{Rules, rules_of}
-use Rattle.flat_rules.specs.States.{State, start, end_of}
+use Rattle.flat_rules.specs.States.{RunState, start, end_of}
 use Rattle.flat_rules.specs.Replays.{run, settled}
 use Rattle.flat_threads.specs.Contexts.{Context}
 use Rattle.flat_machine.specs.Machine.{machine_of}
@@ -18,7 +18,7 @@ use Rattle.world_rules.specs.Whole.{Whole, Leads}
 use Rattle.alaska_run.specs.inner.Courses.{IsWorldOf}
 
 -- a journal that leads from the world as it was made replays
-pub replay_of : (code : LinearCode) (s : Settings) (first : Whole Shared LinearCode Context) (log : List Entry) (x : State Shared Context)
+pub replay_of : (code : LinearCode) (s : Settings) (first : Whole Shared LinearCode Context) (log : List Entry) (x : RunState Shared Context)
     → IsWorldOf s code first → Leads machine_of first log x → replay code s log ≡ Some x
 replay_of code s first log x w leads =
     let P : LinearCode → Rules → Shared → Type 0 = λ c r shared. run (machine_of c) r log (start (machine_of c) r shared) ≡ Some x in
@@ -28,7 +28,7 @@ replay_of code s first log x w leads =
     ap (option_and_then (settled (machine_of code) (rules_of s))) c ∙ ap (λ (due : List Entry). if length due == 0 then Some x else None) leads.settled
 
 -- and ends as its last state does
-pub end_of_run : (code : LinearCode) (s : Settings) (first : Whole Shared LinearCode Context) (x : State Shared Context) (end : End)
+pub end_of_run : (code : LinearCode) (s : Settings) (first : Whole Shared LinearCode Context) (x : RunState Shared Context) (end : End)
     → IsWorldOf s code first → end_of (machine_of first.code) first.settings x ≡ Some end → end_of (machine_of code) (rules_of s) x ≡ Some end
 end_of_run code s first x end w ends =
     let P : LinearCode → Rules → Type 0 = λ c r. end_of (machine_of c) r x ≡ Some end in

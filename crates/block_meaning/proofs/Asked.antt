@@ -35,7 +35,7 @@ use Rattle.source_expressions.specs.Progress.{now_in}
 use Rattle.block_meaning.specs.Asking.{some_bytes, a_thread, size_of_last, wish_by, wish_by_got, AreAsked, AreAskedOf, told, wish}
 use Rattle.block_meaning.specs.declared.thread.Own.{Own}
 use Rattle.block_meaning.specs.Threads.{callers_of, control_of}
-use Rattle.block_meaning.specs.inner.Turns.{unless_broken, bytes_asked, asked_under, Reaches}
+use Rattle.block_meaning.specs.inner.Turns.{unless_broken, bytes_asked, asked_under, ComesToEnd}
 use Rattle.block_meaning.proofs.Reaching.{turn_taken}
 use Rattle.block_meaning.proofs.Renewing.{last_is, Renewal, renewal}
 
@@ -159,7 +159,7 @@ same_asks w a b c a' b' c' n m e f g h k = rw (h, ← e, ← f, ← g) k
 
 -- a turn asks for the bytes that the code tells, as the code takes it
 pub turn_asks : (p : SharedProgram) (thread : ℕ) (answer : Answer) (own : Own) (w : World) (locals : List control.Variable) (blocks : Blocks) (new_locals : List control.Variable) (new_blocks : Blocks) (q : Pending) (asked : Option ℕ)
-    → Reaches p own.at own.function locals blocks new_locals new_blocks q → locals ≡ own.locals.now → blocks ≡ w.store.now → asked ≡ asked_under answer new_blocks q
+    → ComesToEnd p own.at own.function locals blocks new_locals new_blocks q → locals ≡ own.locals.now → blocks ≡ w.store.now → asked ≡ asked_under answer new_blocks q
     → AreAskedOf answer (wish_by (world_of w) (Some (turn (program_of p) thread answers.Plain (control_of own) (world_of w))) (Some (turn (program_of p) thread answers.Got (control_of own) (world_of w))) (Some (turn (program_of p) thread answers.None (control_of own) (world_of w)))) asked
 turn_asks p thread answers.Plain own w locals blocks new_locals new_blocks q asked reaches e f is =
     same_asks (world_of w) _ _ _ _ _ _ (bytes_asked new_blocks q) asked

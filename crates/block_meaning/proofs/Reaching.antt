@@ -35,11 +35,11 @@ use Rattle.block_meaning.specs.declared.thread.Own.{Own}
 use Rattle.block_meaning.specs.Threads.{point_of_at, control_of, callers_of, touches_in}
 use Rattle.source_statements.specs.Finishing.{Finishes, GivesTo}
 use Rattle.source_assignments.specs.Exits.{exit, ExitsAs}
-use Rattle.block_meaning.specs.inner.Turns.{rest_of, Reaches}
+use Rattle.block_meaning.specs.inner.Turns.{rest_of, ComesToEnd}
 
 -- with a value and its use
 pub reach_gives : (p : SharedProgram) (at : At) (v : Value) (k : Rc Use Global) (u : Use) (function : ℕ) (locals : List control.Variable) (blocks : Blocks) (new_locals : List control.Variable) (new_blocks : Blocks) (q : Pending)
-    → at ≡ ats.Gives v k → u ≡ k.value → GivesTo p function (use_of u) v locals blocks new_locals new_blocks q → Reaches p at function locals blocks new_locals new_blocks q
+    → at ≡ ats.Gives v k → u ≡ k.value → GivesTo p function (use_of u) v locals blocks new_locals new_blocks q → ComesToEnd p at function locals blocks new_locals new_blocks q
 reach_gives p at v k u function locals blocks new_locals new_blocks q is e given = record {
   goes = λ r x.
       ap (λ (a : At). from_point (here_at p function r) (point_of_at a) (now_in locals blocks x)) is
@@ -49,7 +49,7 @@ reach_gives p at v k u function locals blocks new_locals new_blocks q is e given
 
 -- with what is left to do
 pub reach_begins : (p : SharedProgram) (at : At) (k : Rc Todo Global) (t : Todo) (function : ℕ) (locals : List control.Variable) (blocks : Blocks) (new_locals : List control.Variable) (new_blocks : Blocks) (q : Pending)
-    → at ≡ ats.Begins k → t ≡ k.value → Finishes p function (todo_of t) exits.End locals blocks new_locals new_blocks q → Reaches p at function locals blocks new_locals new_blocks q
+    → at ≡ ats.Begins k → t ≡ k.value → Finishes p function (todo_of t) exits.End locals blocks new_locals new_blocks q → ComesToEnd p at function locals blocks new_locals new_blocks q
 reach_begins p at k t function locals blocks new_locals new_blocks q is e finished = record {
   goes = λ r x.
       ap (λ (a : At). from_point (here_at p function r) (point_of_at a) (now_in locals blocks x)) is
@@ -61,7 +61,7 @@ reach_begins p at k t function locals blocks new_locals new_blocks q is e finish
 pub reach_round : (p : SharedProgram) (at : At) (l : Rc LoopParts Global) (k : Rc Todo Global) (body : SharedStmt) (step : Option (Rc SharedStmt Global)) (t : Todo) (function : ℕ) (locals : List control.Variable) (blocks : Blocks) (mid_locals : List control.Variable) (mid_blocks : Blocks) (new_locals : List control.Variable) (new_blocks : Blocks) (g : Exit) (q : Pending)
     → at ≡ ats.Round l k → body ≡ l.value.body.value → step ≡ l.value.step → t ≡ k.value
     → ExitsAs (λ h w. rounds h (loop_of l.value) (run_stmt h (stmt_of body)) (run_stmt h (stmt_or_nothing l.value.place step)) w) p function (todo_of k.value) locals blocks mid_locals mid_blocks g
-    → Finishes p function (todo_of t) g mid_locals mid_blocks new_locals new_blocks q → Reaches p at function locals blocks new_locals new_blocks q
+    → Finishes p function (todo_of t) g mid_locals mid_blocks new_locals new_blocks q → ComesToEnd p at function locals blocks new_locals new_blocks q
 reach_round p at l k body step t function locals blocks mid_locals mid_blocks new_locals new_blocks g q is b s e a finished = record {
   goes = λ r x.
       ap (λ (c : At). from_point (here_at p function r) (point_of_at c) (now_in locals blocks x)) is
@@ -74,7 +74,7 @@ reach_round p at l k body step t function locals blocks mid_locals mid_blocks ne
 
 -- a turn as the code takes it: how far it gets, and what ends it
 pub turn_taken : (p : SharedProgram) (thread : ℕ) (answer : Answer) (own : Own) (w : World) (locals : List control.Variable) (blocks : Blocks) (new_locals : List control.Variable) (new_blocks : Blocks) (q : Pending) (t : Turn control.Control)
-    → Reaches p own.at own.function locals blocks new_locals new_blocks q → locals ≡ own.locals.now → blocks ≡ w.store.now
+    → ComesToEnd p own.at own.function locals blocks new_locals new_blocks q → locals ≡ own.locals.now → blocks ≡ w.store.now
     → t ≡ ends (here_at p own.function (rest_of thread answer own)) q (record { locals = new_locals; world = actions.with_blocks (world_of w) new_blocks })
     → t ≡ turn (program_of p) thread answer (control_of own) (world_of w)
 turn_taken p thread answer own w locals blocks new_locals new_blocks q t reaches e f comes =
@@ -94,7 +94,7 @@ pub world_back : (w there new : World) (store : Kept) → new ≡ there → ther
 world_back w there new store e f a r k n = rw (n, e, f, a, r, k) refl
 
 -- where a call ended without the value that is used
-pub reach_lacks : (p : SharedProgram) (at : At) (place function : ℕ) (locals : List control.Variable) (blocks : Blocks) → at ≡ ats.Lacks place → Reaches p at function locals blocks locals blocks (pendings.Broke C15 place)
+pub reach_lacks : (p : SharedProgram) (at : At) (place function : ℕ) (locals : List control.Variable) (blocks : Blocks) → at ≡ ats.Lacks place → ComesToEnd p at function locals blocks locals blocks (pendings.Broke C15 place)
 reach_lacks p at place function locals blocks is = record {
   goes = λ r x. ap (λ (a : At). from_point (here_at p function r) (point_of_at a) (now_in locals blocks x)) is;
 }

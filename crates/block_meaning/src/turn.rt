@@ -7,7 +7,7 @@ ghost use Rattle.source_tree.specs.SharedViews.{program_of};
 ghost use Rattle.source_state.specs.Worlds.{world_of};
 ghost use Rattle.block_meaning.specs.Threads.{control_of};
 ghost use Rattle.block_meaning.specs.Asking.{wish_by, AreAskedOf};
-ghost use Rattle.block_meaning.specs.inner.Turns.{turn_of, bytes_of, asked_under, Reaches, Stays};
+ghost use Rattle.block_meaning.specs.inner.Turns.{turn_of, bytes_of, asked_under, ComesToEnd, Stays};
 
 use crate::perform::perform;
 use crate::thread::{At, Outcome, Own};
@@ -30,7 +30,7 @@ fn reach(
     locals: &mut Locals,
     store: &mut KeptStore,
 ) -> Result<Pending, NoMemory>
-    ensures reaches { IfOk result (λ q. Reaches program.now at.now function locals.old.now store.old.now locals.new.now store.new.now q) }
+    ensures reaches { IfOk result (λ q. ComesToEnd program.now at.now function locals.old.now store.old.now locals.new.now store.new.now q) }
     ensures locals { OnOk result (locals.new.kept ≡ locals.old.kept) }
     ensures store { OnOk result (store.new.kept ≡ store.old.kept) }
 {

@@ -11,7 +11,7 @@ use Rattle.flat_meaning.specs.declared.endings.Stop.{Stop}
 use Rattle.flat_meaning.specs.declared.endings.Stop.TheVariants.{AtStep, Spent}
 use Rattle.flat_meaning.specs.Image.{Image}
 use Rattle.flat_meaning.specs.Local.{Came, spent_if, stop_before, stop_at, stopped_or, local_within}
-use Rattle.flat_meaning.specs.Stages.{Stage, starts, going, waiting, landed, thread_at, Before, safe, looks, steps, calls, turn_over, nothing, before, past_if, Gone, gone, gone_from}
+use Rattle.flat_meaning.specs.Stages.{Stage, starts, going, waiting, landed, thread_at, Before, safe, looks, steps, calls, turn_over, nothing, before, past_safepoint, Advance, advanced, advanced_from}
 use Rattle.flat_meaning.specs.Stops.{CallersAtCalls}
 use Rattle.flat_meaning.specs.Words.{Words}
 use Rattle.flat_threads.specs.Contexts.{own_image}
@@ -39,7 +39,7 @@ module _ (code : LinearCode) (lawful : AllLawful code.funcs) (thread : ℕ) wher
 
   -- ---- one go
 
-  past_same : (turns : ℕ) (t : Thread Spot Words) (b : Before) → stop_before x 0 turns t b ≡ None → past_if x t b ≡ t
+  past_same : (turns : ℕ) (t : Thread Spot Words) (b : Before) → stop_before x 0 turns t b ≡ None → past_safepoint x t b ≡ t
   past_same turns t safe e = let bad : Some Spent ≡ None = sym (spends turns) ∙ e in absurd cc
   past_same turns t looks e = refl
   past_same turns t steps e = refl
@@ -47,10 +47,10 @@ module _ (code : LinearCode) (lawful : AllLawful code.funcs) (thread : ℕ) wher
   past_same turns t turn_over e = refl
   past_same turns t nothing e = refl
 
-  thread_lands : (turns : ℕ) (t : Thread Spot Words) → stop_before x 0 turns t (before x t) ≡ None → IsOpen code lawful thread t.top → CallersAtCalls (linear code.funcs) t → Lands code lawful thread t.top (gone_from x thread (past_if x t (before x t)))
-  thread_lands turns t none open_ all = subst (λ (q : Thread Spot Words). Lands code lawful thread t.top (gone_from x thread q)) (sym (past_same turns t (before x t) none)) (lands code lawful thread t all open_)
+  thread_lands : (turns : ℕ) (t : Thread Spot Words) → stop_before x 0 turns t (before x t) ≡ None → IsOpen code lawful thread t.top → CallersAtCalls (linear code.funcs) t → Lands code lawful thread t.top (advanced_from x thread (past_safepoint x t (before x t)))
+  thread_lands turns t none open_ all = subst (λ (q : Thread Spot Words). Lands code lawful thread t.top (advanced_from x thread q)) (sym (past_same turns t (before x t) none)) (lands code lawful thread t all open_)
 
-  gone_lands : (turns : ℕ) (stage : Stage Spot) → stop_at x 0 turns stage ≡ None → IsOpen code lawful thread (thread_at x stage).top → CallersAtCalls (linear code.funcs) (thread_at x stage) → Lands code lawful thread (thread_at x stage).top (gone x thread stage)
+  gone_lands : (turns : ℕ) (stage : Stage Spot) → stop_at x 0 turns stage ≡ None → IsOpen code lawful thread (thread_at x stage).top → CallersAtCalls (linear code.funcs) (thread_at x stage) → Lands code lawful thread (thread_at x stage).top (advanced x thread stage)
   gone_lands turns (starts f a) none open_ all = lands code lawful thread (thread_at x (starts f a)) all open_
   gone_lands turns (going t) none open_ all = thread_lands turns t none open_ all
   gone_lands turns (waiting t) none open_ all = thread_lands turns t none open_ all
@@ -66,7 +66,7 @@ module _ (code : LinearCode) (lawful : AllLawful code.funcs) (thread : ℕ) wher
   by_stop turns stage came (Some stop) e further f go = subst (Arrives stage) (sym (came_so turns stage came stop further (Some stop) refl f)) (here_still (thread_at x stage).top.at)
   by_stop turns stage came None e further f go = go e f
 
-  by_go : (stage : Stage Spot) (came : Came Spot) (n turns : ℕ) (g : Gone Spot) → Lands code lawful thread (thread_at x stage).top g → local_within x thread 0 n turns (going g.thread) ≡ Some came → came.stop ≡ AtStep
+  by_go : (stage : Stage Spot) (came : Came Spot) (n turns : ℕ) (g : Advance Spot) → Lands code lawful thread (thread_at x stage).top g → local_within x thread 0 n turns (going g.thread) ≡ Some came → came.stop ≡ AtStep
       → (IsOpen code lawful thread g.thread.top → CallersAtCalls (linear code.funcs) g.thread → IsBeyond g.thread.top.at (thread_at x came.stage).top.at) → Arrives stage came
   by_go stage came n turns g (along b o each) f at again = further_on _ _ _ b (again o each)
   by_go stage came n turns g (rests r) f at again = let bad : AtStep ≡ Spent = sym at ∙ rest_comes n turns g.thread came r f in absurd cc
@@ -77,4 +77,4 @@ module _ (code : LinearCode) (lawful : AllLawful code.funcs) (thread : ℕ) wher
   arrives zero turns stage open_ all came e at = by_stop turns stage came (stop_at x 0 turns stage) refl None e (λ none f. absurd (none-some came f))
   arrives (suc n) turns stage open_ all came e at =
       by_stop turns stage came (stop_at x 0 turns stage) refl _ e
-      (λ none f. by_go stage came n _ (gone x thread stage) (gone_lands turns stage none open_ all) f at (λ o each. arrives n _ (going (gone x thread stage).thread) o each came f at))
+      (λ none f. by_go stage came n _ (advanced x thread stage) (gone_lands turns stage none open_ all) f at (λ o each. arrives n _ (going (advanced x thread stage).thread) o each came f at))

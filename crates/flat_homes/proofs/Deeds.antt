@@ -71,7 +71,7 @@ module _ (code : LinearCode) where
   module _ (x : Image Spot) (n : ℕ) (m : Memory) (place : ℕ) (node : Step) (stage : Stage Spot) (t : Thread Spot Words) (flow : x.flow ≡ C) where
     outcome_past : (d : actions.Done) → (d ≡ actions.unfit → ⊥) → (l : Words)
         → goes (outcome_turned x n m (choice_at x n m place node l) (does place (step node)) (outcome_at x n m place node t d)) ≡ on
-        → IsPast t (effects.acted n stage t (own_list node) m (outcome_at x n m place node t d)).stage
+        → IsPast t (effects.effect_of_outcome n stage t (own_list node) m (outcome_at x n m place node t d)).stage
     outcome_past (actions.went None after) fit l e = subst (λ (F : Flow Spot). IsPast t (Some (landing (own_list node) (record { top = behind F t.top t.top.own; callers = t.callers })))) (sym flow) (past_of t (own_list node) t.top.own)
     outcome_past (actions.went (Some word) after) fit l e =
         let own : Words = with_temps t.top.own (set_if t.top.own.temps node.to word) in

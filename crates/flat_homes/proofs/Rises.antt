@@ -14,7 +14,7 @@ use Rattle.struct_ir.proofs.Runs.{led, ends}
 use Rattle.flat_meaning.specs.Accesses.{Fault}
 use Rattle.flat_meaning.specs.Image.{Image}
 use Rattle.flat_meaning.specs.Machine.{words_machine, left}
-use Rattle.flat_meaning.specs.Stages.{safe, before, before_act, before_here, before_return, Gone, ran_to, back, turn_done, ending_if, gone_from}
+use Rattle.flat_meaning.specs.Stages.{safe, before, before_act, before_here, before_return, Advance, at_next_stop, back, turn_done, ending_if, advanced_from}
 use Rattle.flat_meaning.specs.Stops.{CallersAtCalls}
 use Rattle.flat_meaning.specs.Words.{Words}
 use Rattle.flat_meaning.proofs.Guards.{Passes, guarded, unguarded_step, safe_behind_call}
@@ -142,15 +142,15 @@ module _ (code : LinearCode) (lawful : AllLawful code.funcs) (thread : ℕ) wher
   Ends p (Ok q) = Steps C M p q × (ahead C M q ≡ stops)
   Ends p (Err f) = (q : Point Spot Words) × Steps C M p q × (ahead C M q ≡ breaks f)
 
-  ran_by : (t : Thread Spot Words) (o : Result (Point Spot Words) Fault) → Ends t.top o → NoFault x thread o → Ran t (ran_to t o)
+  ran_by : (t : Thread Spot Words) (o : Result (Point Spot Words) Fault) → Ends t.top o → NoFault x thread o → Ran t (at_next_stop t o)
   ran_by t (Ok q) e f = record { callers = refl; way = e.0; stop = e.1 }
   ran_by t (Err g) e f = absurd f
 
-  ran : (t : Thread Spot Words) → Ran t (ran_to t (run C M t.top))
+  ran : (t : Thread Spot Words) → Ran t (at_next_stop t (run C M t.top))
   ran t = ran_by t (run C M t.top) (ends C (lawful_code_shrinks code.funcs lawful) M t.top) (no_fault x thread t.top)
 
   -- what one go comes to
-  pub data Lands (p : Point Spot Words) (g : Gone Spot) : Type 0 where
+  pub data Lands (p : Point Spot Words) (g : Advance Spot) : Type 0 where
     along : IsBeyond p.at g.thread.top.at → IsOpen g.thread.top → CallersAtCalls C g.thread → Lands p g
     rests : before x g.thread ≡ safe → Lands p g
 
@@ -191,8 +191,8 @@ module _ (code : LinearCode) (lawful : AllLawful code.funcs) (thread : ℕ) wher
     at_lands round e s = absurd (no_bar round e refl)
     at_lands (returns temp) e s = return_lands temp e q.callers refl
 
-  pub lands : (t : Thread Spot Words) → CallersAtCalls C t → IsOpen t.top → Lands t.top (gone_from x thread t)
+  pub lands : (t : Thread Spot Words) → CallersAtCalls C t → IsOpen t.top → Lands t.top (advanced_from x thread t)
   lands t all open_ =
-      let q = ran_to t (run C M t.top) in
+      let q = at_next_stop t (run C M t.top) in
       let r = ran t in
       at_lands t q (subst (All (λ (c : Point Spot Words). IsCall (C.here c.at))) (sym r.callers) all) r.way open_ (C.here q.top.at) refl r.stop

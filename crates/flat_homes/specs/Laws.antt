@@ -6,7 +6,7 @@ use Rattle.struct_ir.specs.Instrs.{LinearCode}
 use Rattle.flat_rules.specs.declared.settings.Settings.{Settings}
 use Rattle.flat_rules.specs.Rules.{rules_of}
 use Rattle.flat_rules.specs.Draws.{seeded}
-use Rattle.flat_rules.specs.States.{State, homes_of, is_out, is_wanted, most_threads, unbegun_from}
+use Rattle.flat_rules.specs.States.{RunState, homes_of, is_out, is_wanted, most_threads, unbegun_from}
 use Rattle.flat_threads.specs.Belonging.{IsContextOf}
 use Rattle.flat_threads.specs.Contexts.{Context, IsProgram}
 use Rattle.flat_machine.specs.Machine.{machine_of}
@@ -44,7 +44,7 @@ first_world code s = record {
 -- barrier came to be wanted three more than there are Looks and steps
 abbrev pub TurnsAreFew : LinearCode → (looks : ℕ) → Type 0
 TurnsAreFew code looks =
-    (s : Settings) → IsProgram code → (n : ℕ) → s.every ≡ Some n → (log part : List Entry) (z : State Shared Context) → IsBetween machine_of (first_world code s) log part z
+    (s : Settings) → IsProgram code → (n : ℕ) → s.every ≡ Some n → (log part : List Entry) (z : RunState Shared Context) → IsBetween machine_of (first_world code s) log part z
     → ((is_wanted (machine_of code) (rules_of s) z ≡ false) × (count_by is_turn part ≤ n))
     ⊎ ((w : IsWantedWithin machine_of (first_world code s) log part) × (count_by is_turn part ≤ n + (looks + 3) * count_by is_out w.wanted.places))
 

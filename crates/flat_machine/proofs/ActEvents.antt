@@ -9,7 +9,7 @@ use Rattle.flat_meaning.specs.declared.endings.Stop.TheVariants.{AtStep, Spent, 
 use Rattle.flat_meaning.specs.Accesses.{Choice, plain}
 use Rattle.flat_meaning.specs.Allowed.{AreAllowed, MayStep, MayStepAt, StandsBefore}
 use Rattle.flat_meaning.specs.Effects.{Effect, act_effect, look_effect, no_effect}
-use Rattle.flat_meaning.specs.Events.{Event, State, act, after_all, new_stages, put, put_if, stage_made}
+use Rattle.flat_meaning.specs.Events.{Event, MachineState, act, after_all, new_stages, put, put_if, stage_made}
 use Rattle.flat_meaning.specs.Image.{Image}
 use Rattle.flat_meaning.specs.Local.{no_room_if, spent_if, stop_at, stop_before}
 use Rattle.flat_meaning.specs.Memory.{Memory}
@@ -39,7 +39,7 @@ spent_only : (b : Bool) (stop : Stop) → spent_if b ≡ Some stop → stop ≡ 
 spent_only true stop e = let same : Spent ≡ stop = cc in sym same
 spent_only false stop e = absurd cc
 
-module _ (x : Image Spot) (s : State Spot) (number : ℕ) (stage : Stage Spot) (goes_on : s.end ≡ None) (each : length s.own ≡ length s.memory.threads) (own : own_at s.own number ≡ Some stage) where
+module _ (x : Image Spot) (s : MachineState Spot) (number : ℕ) (stage : Stage Spot) (goes_on : s.end ≡ None) (each : length s.own ≡ length s.memory.threads) (own : own_at s.own number ≡ Some stage) where
   abbrev m : Memory
   m = s.memory
 

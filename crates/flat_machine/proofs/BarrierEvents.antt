@@ -16,13 +16,13 @@ use Rattle.struct_ir.specs.Nodes.{Action, Place, Step, step}
 use Rattle.struct_ir.specs.Threads.{Thread}
 use Rattle.flat_meaning.specs.Allocations.{Allocation}
 use Rattle.flat_meaning.specs.Accesses as actions
-use Rattle.flat_meaning.specs.Actions.{acted}
+use Rattle.flat_meaning.specs.Actions.{acted_on_memory}
 use Rattle.flat_meaning.specs.Allowed.{AllStand, MayServe, MayServeAll, pinned}
 use Rattle.flat_meaning.specs.Allowed as stages
 use Rattle.flat_meaning.specs.Ready as readiness
 use Rattle.flat_meaning.specs.Ready.{takes_room}
 use Rattle.flat_meaning.specs.Effects.{serve_effect}
-use Rattle.flat_meaning.specs.Events.{State, Serve, after_serve, after_serves, moved_state, serving_state, new_stages, put, put_if, stage_made}
+use Rattle.flat_meaning.specs.Events.{MachineState, Serve, after_serve, after_serves, moved_state, serving_state, new_stages, put, put_if, stage_made}
 use Rattle.flat_meaning.specs.Image.{Image}
 use Rattle.flat_meaning.specs.Memory.{Made, Memory, beginning}
 use Rattle.flat_meaning.specs.Stages.{Stage, starts, waiting}
@@ -104,13 +104,13 @@ chosen_there rule l (of_realloc word size) = refl
 
 -- ---- one serve after the other
 
-may_serve_all : (x : Image Spot) (vs ws : List Serve) (s : State Spot) → MayServeAll x vs s → MayServeAll x ws (after_serves x vs s) → MayServeAll x (vs ++ ws) s
+may_serve_all : (x : Image Spot) (vs ws : List Serve) (s : MachineState Spot) → MayServeAll x vs s → MayServeAll x ws (after_serves x vs s) → MayServeAll x (vs ++ ws) s
 may_serve_all x [] ws s first rest = rest
 may_serve_all x (v ∷ vs) ws s first rest = (first.0, may_serve_all x vs ws (after_serve x s v) first.1 rest)
 
 module _ (code : LinearCode) where
   -- the turn of a context that waits for room
-  pub record Served (s : Shared) (st : State Spot) (n : ℕ) (c : Context) : Type 0 where
+  pub record Served (s : Shared) (st : MachineState Spot) (n : ℕ) (c : Context) : Type 0 where
     pub thread : Thread Spot Words
     pub is : c.stage ≡ Some (waiting thread)
     pub node : Step
@@ -121,7 +121,7 @@ module _ (code : LinearCode) where
     pub goes : (serve_of (image_of code s) st n (waiting thread)).choice ≡ actions.wait → ⊥
     pub after : Memory
     pub word : Option ℕ
-    pub done : acted (image_of code s).layout n (action_choice (served_choice st.memory.storage) thread.top.own node.action node.temps) node.action (map (target_of thread.top.own) node.places) (map (word_at thread.top.own) node.temps) st.memory ≡ actions.went word after
+    pub done : acted_on_memory (image_of code s).layout n (action_choice (served_choice st.memory.storage) thread.top.own node.action node.temps) node.action (map (target_of thread.top.own) node.places) (map (word_at thread.top.own) node.temps) st.memory ≡ actions.went word after
     pub behind : Stage Spot
     pub effect : serve_effect (image_of code s) n (serve_of (image_of code s) st n (waiting thread)).choice (waiting thread) st.memory ≡ record { memory = after; stage = Some behind; end = None }
     pub threads : after.threads ≡ st.memory.threads
@@ -132,7 +132,7 @@ module _ (code : LinearCode) where
       let here : asked_at (image_of code s) (waiting t) ≡ asked_by t.top.own node.action node.places node.temps = rw at refl in
       here ∙ ap (λ (places : List Place). asked_by t.top.own node.action places node.temps) h.no_places ∙ asked_there t.top.own h.operands
 
-  served_at : (s : Shared) (st : State Spot) (n : ℕ) (c : Context) → is_some st.memory.leaving ≡ true → (t : Thread Spot Words) → c.stage ≡ Some (waiting t) → (place : ℕ) (node : Step)
+  served_at : (s : Shared) (st : MachineState Spot) (n : ℕ) (c : Context) → is_some st.memory.leaving ≡ true → (t : Thread Spot Words) → c.stage ≡ Some (waiting t) → (place : ℕ) (node : Step)
       → slice_get (instrs_of code.funcs t.top.at.function) t.top.at.index ≡ Some (acts place (step node)) → takes_room node.action ≡ true → IsSized (length t.top.own.temps) node → Served s st n c
   served_at s st n c some t is place node at takes has =
       let m = st.memory in
@@ -161,10 +161,10 @@ module _ (code : LinearCode) where
         serves = (leaves x.layout n choice l (length l.temps) node has m given.after given.word given.is).serves some;
       }
 
-  served_before : (s : Shared) (st : State Spot) (n : ℕ) (c : Context) → is_some st.memory.leaving ≡ true → (i : Instr) → IsBefore code c i → Served s st n c
+  served_before : (s : Shared) (st : MachineState Spot) (n : ℕ) (c : Context) → is_some st.memory.leaving ≡ true → (i : Instr) → IsBefore code c i → Served s st n c
   served_before s st n c some i b = served_at s st n c some b.thread b.is b.at.place b.at.node (b.there ∙ ap Some b.at.is) b.at.action b.at.has
 
-  pub served : (s : Shared) (st : State Spot) (n : ℕ) (c : Context) → IsContextOf code c → c.wait ≡ Some Room → is_some st.memory.leaving ≡ true → Served s st n c
+  pub served : (s : Shared) (st : MachineState Spot) (n : ℕ) (c : Context) → IsContextOf code c → c.wait ≡ Some Room → is_some st.memory.leaving ≡ true → Served s st n c
   served s st n c of_ wait some =
       let w = waiting_of code c.stage (sym of_.wait ∙ wait) in
       let there = instr_there (slice_get (instrs_of code.funcs w.thread.top.at.function) w.thread.top.at.index) w.here in
@@ -194,7 +194,7 @@ module _ (code : LinearCode) where
     Told k stage = stage_home (made k) (place_at code (place k) stage) ≡ stage
 
     -- so many threads have had their turn
-    pub record IsTurned (n : ℕ) (st : State Spot) : Type 0 where
+    pub record IsTurned (n : ℕ) (st : MachineState Spot) : Type 0 where
       pub long : length st.own ≡ length s.memory.threads
       pub threads : st.memory.threads ≡ s.memory.threads
       pub going : st.end ≡ None
@@ -205,7 +205,7 @@ module _ (code : LinearCode) where
     pub begin_turned : IsTurned 0 (serving_state (moved_state (sweep_moves x (at_home s home)) (at_home s home)))
     begin_turned = record { long = length-stages_home s.memory.threads home; threads = refl; going = refl; serves = refl; later = λ k le. refl; told = λ k lt. absurd (omega (arith, lt)) }
 
-    module _ (n : ℕ) (st : State Spot) (is : IsTurned n st) (below : n < length s.memory.threads) where
+    module _ (n : ℕ) (st : MachineState Spot) (is : IsTurned n st) (below : n < length s.memory.threads) where
       pub within : n < length home
       within = omega (arith, homes.0, below)
 
@@ -259,7 +259,7 @@ module _ (code : LinearCode) where
         may_serve : MayServe x st.memory serve.choice (Some (waiting v.thread))
         may_serve = (wants_here, v.goes, given_may st.memory.storage (served_choice st.memory.storage) (served_may st.memory.storage) v.thread.top.own (x.flow.here v.thread.top.at))
 
-        abbrev pub next : State Spot
+        abbrev pub next : MachineState Spot
         next = put st n (record { memory = v.after; stage = Some v.behind; end = None })
 
         pub next_is : after_serves x (serve ∷ []) st ≡ next
@@ -307,11 +307,11 @@ module _ (code : LinearCode) where
         by false w = unserved w
 
     -- all turns from one on
-    record HaveTurns (vs : List Serve) (st : State Spot) : Type 0 where
+    record HaveTurns (vs : List Serve) (st : MachineState Spot) : Type 0 where
       pub may : MayServeAll x vs st
       pub end_ : IsTurned (length s.memory.threads) (after_serves x vs st)
 
-    turns_from : (count n : ℕ) (st : State Spot) → n + count ≡ length s.memory.threads → IsTurned n st → HaveTurns (serves_from x (range_with_len n count) st) st
+    turns_from : (count n : ℕ) (st : MachineState Spot) → n + count ≡ length s.memory.threads → IsTurned n st → HaveTurns (serves_from x (range_with_len n count) st) st
     turns_from zero n st e is = let same : n ≡ length s.memory.threads = omega (arith, e) in record { may = tt; end_ = subst (λ k. IsTurned k st) same is }
     turns_from (suc count) n st e is =
         let vs = serves_if x st n (own_at st.own n) in
@@ -321,10 +321,10 @@ module _ (code : LinearCode) where
         let rest = turns_from count (n + 1) next (omega (arith, e)) here.next in
         record { may = may_serve_all x vs ws st here.may rest.may; end_ = subst (IsTurned (length s.memory.threads)) (sym (after_serves-append x vs ws st)) rest.end_ }
 
-    abbrev here : State Spot
+    abbrev here : MachineState Spot
     here = at_home s home
 
-    abbrev slid : State Spot
+    abbrev slid : MachineState Spot
     slid = serving_state (moved_state (sweep_moves (image_of code s) (at_home s home)) (at_home s home))
 
     all_turns : HaveTurns (sweep_serves x here) slid
@@ -359,7 +359,7 @@ module _ (code : LinearCode) where
         subst (AreLegal (pinned x here) h) (slide_is (pinned x here) h (lower.slide_moves (pinned x here) h.size 0 h.objects) sound slide) slide.legal
 
     -- the old objects of reallocs leave behind this
-    abbrev end_state : State Spot
+    abbrev end_state : MachineState Spot
     end_state = after_serves (image_of code s) (sweep_serves (image_of code s) (at_home s home)) (serving_state (moved_state (sweep_moves (image_of code s) (at_home s home)) (at_home s home)))
 
     home_told : stages_home end_state.memory.threads (home_at code end_state.own home) ≡ end_state.own

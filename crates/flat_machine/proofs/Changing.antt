@@ -16,7 +16,7 @@ use Rattle.flat_store.specs.Flat.{first_outside}
 use Rattle.ak_trace.specs.declared.endings.TrapKind.TheVariants as kinds
 use Rattle.flat_words.specs.Words.{applied, number_in, number_word}
 use Rattle.flat_meaning.specs.Accesses.{Done, over, trap, went, within}
-use Rattle.flat_meaning.specs.Actions.{becomes, changed, compared, is_equal, number_at}
+use Rattle.flat_meaning.specs.Actions.{word_after_change, changed, compared, is_equal, number_at}
 use Rattle.flat_meaning.specs.Memory.{Memory, written}
 use Rattle.flat_meaning.specs.Words.{Target}
 
@@ -61,8 +61,8 @@ module _ (m : Memory) (t : IntType) where
   abbrev pub put : (address word gives : ℕ) → Done
   put address word gives = within kinds.Store (first_outside m.storage.bytes address (t.bits / 8)) (went (Some gives) (written m address (low_bytes (t.bits / 8) word)))
 
-  pub changed_is : (how : Change) (a : Target) (by old new : ℕ) → old ≡ number_at t a.address m → new ≡ becomes how t old by → put a.address new old ≡ changed how t a by m
-  changed_is how a by old new old_is new_is = ap (λ (w : ℕ). put a.address w old) new_is ∙ ap (λ (o : ℕ). put a.address (becomes how t o by) o) old_is
+  pub changed_is : (how : Change) (a : Target) (by old new : ℕ) → old ≡ number_at t a.address m → new ≡ word_after_change how t old by → put a.address new old ≡ changed how t a by m
+  changed_is how a by old new old_is new_is = ap (λ (w : ℕ). put a.address w old) new_is ∙ ap (λ (o : ℕ). put a.address (word_after_change how t o by) o) old_is
 
   module _ (a want : Target) (new old wanted : ℕ) (old_is : old ≡ number_at t a.address m) (wanted_is : wanted ≡ number_at t want.address m) (first : first_outside m.storage.bytes a.address (t.bits / 8) ≡ None) where
     -- the second address is outside

@@ -4,7 +4,7 @@ use Rattle.std.specs.Option.{option_map}
 use Rattle.ak_trace.specs.declared.entry.Entry.{Entry}
 use Rattle.struct_ir.specs.Instrs.{LinearCode}
 use Rattle.flat_rules.specs.declared.settings.Settings.{Settings}
-use Rattle.flat_rules.specs.States.{State}
+use Rattle.flat_rules.specs.States.{RunState}
 use Rattle.flat_rules.specs.Rules.{rules_of}
 use Rattle.flat_rules.proofs.Spares.{spare_is_left}
 use Rattle.flat_threads.specs.Contexts.{Context}
@@ -22,6 +22,6 @@ journals_fit code s log x replays = let a = spare_is_left Shared Context (machin
 pub finals_fit : (code : LinearCode) (s : Settings) (log : List Entry) (f : Final) → final_of code s log ≡ Some f → length log ≤ s.entries
 finals_fit code s log f is = by (replay code s log) refl is
   where
-    by : (o : Option (State Shared Context)) → replay code s log ≡ o → option_map (final_at code s log) o ≡ Some f → length log ≤ s.entries
+    by : (o : Option (RunState Shared Context)) → replay code s log ≡ o → option_map (final_at code s log) o ≡ Some f → length log ≤ s.entries
     by None e told = absurd (cc told)
     by (Some x) e told = journals_fit code s log x e

@@ -17,7 +17,7 @@ use Rattle.defrag_move.proofs.Kept.{end_within, has_size}
 use Rattle.struct_ir.specs.Nodes.{Action, Place, Step}
 use Rattle.flat_meaning.specs.Accesses as actions
 use Rattle.flat_meaning.specs.Accesses.{null, wait, allocated, zeroed, renewed, guarded, with_object, with_copy}
-use Rattle.flat_meaning.specs.Actions.{acted}
+use Rattle.flat_meaning.specs.Actions.{acted_on_memory}
 use Rattle.flat_meaning.specs.Image.{Layout}
 use Rattle.flat_meaning.specs.Memory.{Memory, left_by, with_storage}
 use Rattle.flat_meaning.specs.Words.{Words, target_of, word_at}
@@ -213,7 +213,7 @@ module _ (pinned : ℕ → Bool) (m : Memory) (is : IsSlidStorage pinned m.stora
   either_stays true d e h k = h
   either_stays false d e h k = k
 
-  stays : (x : Layout) (n : ℕ) (l : Words) (words : List ℕ) → m.leaving ≡ Some words → (a : Action) (temps : List ℕ) → Operands a temps → Stays (acted x n (action_choice (served_choice m.storage) l a temps) a [] (map (word_at l) temps) m)
+  stays : (x : Layout) (n : ℕ) (l : Words) (words : List ℕ) → m.leaving ≡ Some words → (a : Action) (temps : List ℕ) → Operands a temps → Stays (acted_on_memory x n (action_choice (served_choice m.storage) l a temps) a [] (map (word_at l) temps) m)
   stays x n l words serves _ _ (of_malloc size) = allocated_stays (word_at l size) _ _ refl refl
   stays x n l words serves _ _ (of_calloc count size) = zeroed_stays (word_at l count * word_at l size) _ _ refl refl
   stays x n l words serves _ _ (of_realloc word size) =
@@ -228,9 +228,9 @@ some_words None some = absurd cc
 some_words (Some words) some = (words, refl)
 
 pub served_stays : (pinned : ℕ → Bool) (x : Layout) (n : ℕ) (l : Words) (temps : ℕ) (s : Step) → IsSized temps s → (m after : Memory) (word : Option ℕ) → is_some m.leaving ≡ true → IsSlidStorage pinned m.storage
-    → acted x n (action_choice (served_choice m.storage) l s.action s.temps) s.action (map (target_of l) s.places) (map (word_at l) s.temps) m ≡ actions.went word after → IsSlidStorage pinned after.storage
+    → acted_on_memory x n (action_choice (served_choice m.storage) l s.action s.temps) s.action (map (target_of l) s.places) (map (word_at l) s.temps) m ≡ actions.went word after → IsSlidStorage pinned after.storage
 served_stays pinned x n l temps s h m after word some is done =
-    let none : acted x n (action_choice (served_choice m.storage) l s.action s.temps) s.action [] (map (word_at l) s.temps) m ≡ actions.went word after =
-    ap (λ (places : List Place). acted x n (action_choice (served_choice m.storage) l s.action s.temps) s.action (map (target_of l) places) (map (word_at l) s.temps) m) (sym h.no_places) ∙ done in
+    let none : acted_on_memory x n (action_choice (served_choice m.storage) l s.action s.temps) s.action [] (map (word_at l) s.temps) m ≡ actions.went word after =
+    ap (λ (places : List Place). acted_on_memory x n (action_choice (served_choice m.storage) l s.action s.temps) s.action (map (target_of l) places) (map (word_at l) s.temps) m) (sym h.no_places) ∙ done in
     let serves = some_words m.leaving some in
     subst (IsSlidStorage pinned) (ap (storage_of m) none) (stays pinned m is x n l serves.0 serves.1 s.action s.temps h.operands)

@@ -20,7 +20,7 @@ use Rattle.struct_ir.specs.Instrs.{LinearCode}
 use Rattle.struct_ir.specs.Linear.{Spot}
 use Rattle.flat_meaning.specs.Allocations.{Allocation}
 use Rattle.flat_meaning.specs.Allowed.{pinned}
-use Rattle.flat_meaning.specs.Events.{State, Serve, after_serves, moved_state, serving_state}
+use Rattle.flat_meaning.specs.Events.{MachineState, Serve, after_serves, moved_state, serving_state}
 use Rattle.flat_meaning.specs.Image.{Image}
 use Rattle.flat_meaning.specs.Stages.{waiting}
 use Rattle.flat_rules.specs.Lawful.{AreHome, IsOfRun}
@@ -46,7 +46,7 @@ module _ (code : LinearCode) (s : Shared) (home : List (Option Context)) (kept :
   abbrev x : Image Spot
   x = image_of code s
 
-  abbrev here : State Spot
+  abbrev here : MachineState Spot
   here = at_home s home
 
   abbrev pins : ℕ → Bool
@@ -58,7 +58,7 @@ module _ (code : LinearCode) (s : Shared) (home : List (Option Context)) (kept :
   abbrev moves : List Move
   moves = sweep_moves (image_of code s) (at_home s home)
 
-  abbrev moved : State Spot
+  abbrev moved : MachineState Spot
   moved = serving_state (moved_state (sweep_moves (image_of code s) (at_home s home)) (at_home s home))
 
   -- ---- the slide
@@ -81,7 +81,7 @@ module _ (code : LinearCode) (s : Shared) (home : List (Option Context)) (kept :
   abbrev serves : (count : ℕ) → List Serve
   serves count = serves_from (image_of code s) (range_with_len 0 count) moved
 
-  abbrev behind : (count : ℕ) → State Spot
+  abbrev behind : (count : ℕ) → MachineState Spot
   behind count = after_serves (image_of code s) (serves count) moved
 
   abbrev Told : List Serve → Type 0
@@ -93,7 +93,7 @@ module _ (code : LinearCode) (s : Shared) (home : List (Option Context)) (kept :
     told : Told (serves n)
 
   module _ (n : ℕ) (is : IsWalked n) (below : n < length s.memory.threads) where
-    abbrev st : State Spot
+    abbrev st : MachineState Spot
     st = behind n
 
     abbrev turn_serves : List Serve
@@ -131,7 +131,7 @@ module _ (code : LinearCode) (s : Shared) (home : List (Option Context)) (kept :
 
       storage_next : IsSlidStorage pins (after_serves x (serve ∷ []) st).memory.storage
       storage_next =
-          subst (λ (t : State Spot). IsSlidStorage pins t.memory.storage) (sym (next_is code s home all homes n st is.turned below c at v))
+          subst (λ (t : MachineState Spot). IsSlidStorage pins t.memory.storage) (sym (next_is code s home all homes n st is.turned below c at v))
           (served_stays pins x.layout n v.thread.top.own (length v.thread.top.own.temps) v.node v.has st.memory v.after v.word is.turned.serves is.storage v.done)
 
       adds_one : Adds turn_serves
@@ -158,7 +158,7 @@ module _ (code : LinearCode) (s : Shared) (home : List (Option Context)) (kept :
     walked_next : IsWalked (n + 1)
     walked_next = record {
       turned = subst (IsTurned code s home all homes (n + 1)) (sym behind_next) (turn code s home all homes n st is.turned below).next;
-      storage = subst (λ (t : State Spot). IsSlidStorage pins t.memory.storage) (sym behind_next) adds.storage;
+      storage = subst (λ (t : MachineState Spot). IsSlidStorage pins t.memory.storage) (sym behind_next) adds.storage;
       told = subst Told (sym more) (subst (All (IsNullForRoom x here)) (sym (map-append served_of (serves n) turn_serves)) (All-append (IsNullForRoom x here) (map served_of (serves n)) (map served_of turn_serves) is.told adds.told));
     }
 

@@ -8,7 +8,7 @@ use Rattle.block_store.specs.Runs.{own_at}
 use Rattle.struct_ir.specs.Instrs.{LinearCode}
 use Rattle.struct_ir.specs.Linear.{Spot}
 use Rattle.flat_meaning.specs.Effects.{Effect, serve_effect}
-use Rattle.flat_meaning.specs.Events.{State, Serve, after_serves, new_stages, put, put_if, stage_made}
+use Rattle.flat_meaning.specs.Events.{MachineState, Serve, after_serves, new_stages, put, put_if, stage_made}
 use Rattle.flat_meaning.specs.Image.{Image, linear_image}
 use Rattle.flat_meaning.specs.Memory.{Memory, words_leaving}
 use Rattle.flat_meaning.specs.Stages.{Stage}
@@ -30,10 +30,10 @@ range_push a (suc n) j e = ap (λ ks. a ∷ ks) (range_push (a + 1) n j (omega a
 
 module _ (x : Image Spot) where
   -- the serves of one thread in a state
-  abbrev pub turn_of : State Spot → (thread : ℕ) → List Serve
+  abbrev pub turn_of : MachineState Spot → (thread : ℕ) → List Serve
   turn_of s thread = serves_if x s thread (own_at s.own thread)
 
-  pub serves_from-push : (threads : List ℕ) (k : ℕ) (s : State Spot) → serves_from x (threads ++ k ∷ []) s ≡ serves_from x threads s ++ turn_of (after_serves x (serves_from x threads s) s) k
+  pub serves_from-push : (threads : List ℕ) (k : ℕ) (s : MachineState Spot) → serves_from x (threads ++ k ∷ []) s ≡ serves_from x threads s ++ turn_of (after_serves x (serves_from x threads s) s) k
   serves_from-push [] k s = append-nil (turn_of s k)
   serves_from-push (t ∷ threads) k s =
       let v = turn_of s t in
@@ -41,7 +41,7 @@ module _ (x : Image Spot) where
       let rest = serves_from x threads next in
       ap (λ (ws : List Serve). v ++ ws) (serves_from-push threads k next)
       ∙ sym (append_assoc v rest (turn_of (after_serves x rest next) k))
-      ∙ ap (λ (now : State Spot). (v ++ rest) ++ turn_of now k) (sym (after_serves-append x v rest s))
+      ∙ ap (λ (now : MachineState Spot). (v ++ rest) ++ turn_of now k) (sym (after_serves-append x v rest s))
 
 -- the entry of an allocation that was served
 abbrev pub told : Serve → Entry
@@ -84,7 +84,7 @@ module _ (code : LinearCode) (s : Shared) (home : List (Option Context)) where
       abbrev x : Image Spot
       x = image_of code s
 
-      abbrev state : State Spot
+      abbrev state : MachineState Spot
       state = after_serves x vs (at_home s home)
 
       within : n < length home
@@ -147,7 +147,7 @@ module _ (code : LinearCode) (s : Shared) (home : List (Option Context)) where
             )
             ∙ served.effect
 
-        abbrev behind : State Spot
+        abbrev behind : MachineState Spot
         behind = put state n effect
 
         after_is : after_serves x (vs ++ serve ∷ []) (at_home s home) ≡ behind
@@ -167,7 +167,7 @@ module _ (code : LinearCode) (s : Shared) (home : List (Option Context)) where
             ap (λ p. place_at code p (Some served.behind)) at_first ∙ ap (λ o. Some (context_at code c o (Some served.behind))) served.is ∙ ap Some (sym served.context)
 
         -- in that state
-        pub record IsIn (now : State Spot) : Type 0 where
+        pub record IsIn (now : MachineState Spot) : Type 0 where
           pub memory : new.memory ≡ now.memory
           pub there : set places n (Some d) ≡ home_at code now.own home
           pub long : length now.own ≡ length s.memory.threads

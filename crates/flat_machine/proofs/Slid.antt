@@ -19,7 +19,7 @@ use Rattle.arena_meaning.specs.Moves.{after_plan, moved, moved_with}
 use Rattle.struct_ir.specs.Instrs.{LinearCode}
 use Rattle.struct_ir.specs.Linear.{Spot}
 use Rattle.flat_meaning.specs.Allowed.{pinned}
-use Rattle.flat_meaning.specs.Events.{State, Serve, after_serves, moved_state, serving_state}
+use Rattle.flat_meaning.specs.Events.{MachineState, Serve, after_serves, moved_state, serving_state}
 use Rattle.flat_meaning.specs.Image.{Image, limits_for, linear_image}
 use Rattle.flat_rules.specs.Entries.{barrier_entry, served_entry}
 use Rattle.flat_machine.specs.Shares.{Shared, image_of}
@@ -109,7 +109,7 @@ module _ (code : LinearCode) (s : Shared) (home : List (Option Context)) (told :
   abbrev pub begun : Shared
   begun = with_memory slid_and_told (serving slid_and_told.memory)
 
-  abbrev slid : State Spot
+  abbrev slid : MachineState Spot
   slid = serving_state (moved_state moves (at_home s home))
 
   same_limits : image_of code begun ≡ image_of code s

@@ -17,7 +17,7 @@ use Rattle.flat_meaning.specs.declared.endings.Stop.{Stop}
 use Rattle.flat_meaning.specs.declared.endings.Stop.TheVariants.{AtStep, Spent, NoRoom}
 use Rattle.flat_meaning.specs.Accesses as actions
 use Rattle.flat_meaning.specs.Accesses.{Choice, Done, Fault, plain, got, null, wait, allocated, zeroed, renewed, reallocated, guarded, trap, output_limit}
-use Rattle.flat_meaning.specs.Actions.{acted, may_start}
+use Rattle.flat_meaning.specs.Actions.{acted_on_memory, may_start}
 use Rattle.flat_meaning.specs.Image.{Image}
 use Rattle.flat_meaning.specs.Machine.{served_by, words_machine, words_world}
 use Rattle.flat_meaning.specs.Memory.{Memory}
@@ -81,7 +81,7 @@ module _ (x : Image Spot) (n : ℕ) (m : Memory) (idle : m.leaving ≡ None) (t 
   abbrev told_step : (place : ℕ) → Action → List Place → (to : Option ℕ) → (temps slots : List ℕ) → Turned
   told_step place action places to temps slots =
       let c = action_choice rule l action temps in
-      told_done action c to (acted x.layout n c action (map (target_of l) places) (map (word_at l) temps) m) (does place (step (node action places to temps slots)))
+      told_done action c to (acted_on_memory x.layout n c action (map (target_of l) places) (map (word_at l) temps) m) (does place (step (node action places to temps slots)))
 
   -- ---- what is told of an allocation, by what is chosen
 

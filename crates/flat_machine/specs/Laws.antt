@@ -12,7 +12,7 @@ use Rattle.flat_meaning.specs.Memory.{Memory}
 use Rattle.flat_meaning.specs.Accesses.{Choice, plain}
 use Rattle.flat_meaning.specs.Stages.{Stage, Before, looks, thread_at, before}
 use Rattle.flat_meaning.specs.Local.{stop_at}
-use Rattle.flat_meaning.specs.Events.{State, Event, look, act, barrier, put, after_all}
+use Rattle.flat_meaning.specs.Events.{MachineState, Event, look, act, barrier, put, after_all}
 use Rattle.flat_meaning.specs.Allowed.{AreAllowed}
 use Rattle.flat_machine.specs.Acting.{choice_for, effect_of}
 use Rattle.flat_rules.specs.Lawful.{AreHome, IsFlat, IsOfRun}
@@ -47,19 +47,19 @@ abbrev pub events_of : Image Spot → (number : ℕ) → Memory → Stage Spot �
 events_of x number m stage stop = event_before number (choice_for x m stage) stop (before x (thread_at x stage))
 
 -- it may come, and does what act does
-pub record IsTheEvent (x : Image Spot) (s : State Spot) (number : ℕ) (stage : Stage Spot) (stop : Stop) : Type 0 where
+pub record IsTheEvent (x : Image Spot) (s : MachineState Spot) (number : ℕ) (stage : Stage Spot) (stop : Stop) : Type 0 where
   pub allowed : AreAllowed x (events_of x number s.memory stage stop) s
   pub after : after_all x (events_of x number s.memory stage stop) s ≡ put s number (effect_of x number (choice_for x s.memory stage) stage s.memory stop)
 
 -- where a thread has stopped so, in a run that goes on, and each thread that was made has a stage or none
 abbrev pub ActIsItsEvent : Type 0
 ActIsItsEvent =
-    (x : Image Spot) (s : State Spot) (number most turns : ℕ) (stage : Stage Spot) (stop : Stop) → s.end ≡ None → length s.own ≡ length s.memory.threads → own_at s.own number ≡ Some stage → stop_at x most turns stage ≡ Some stop → IsTheEvent x s number stage stop
+    (x : Image Spot) (s : MachineState Spot) (number most turns : ℕ) (stage : Stage Spot) (stop : Stop) → s.end ≡ None → length s.own ≡ length s.memory.threads → own_at s.own number ≡ Some stage → stop_at x most turns stage ≡ Some stop → IsTheEvent x s number stage stop
 
 -- ---- barrier
 
 -- the event of a barrier
-abbrev pub barrier_of : Image Spot → State Spot → Event
+abbrev pub barrier_of : Image Spot → MachineState Spot → Event
 barrier_of x s = barrier (sweep_moves x s) (sweep_serves x s)
 
 -- it may come, and does what barrier does

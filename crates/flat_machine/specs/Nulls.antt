@@ -14,7 +14,7 @@ use Rattle.struct_ir.specs.Nodes.{Action, Place, step}
 use Rattle.flat_meaning.specs.declared.endings.Stop.TheVariants.{AtStep}
 use Rattle.flat_meaning.specs.Allocations.{Allocation, allocation_of}
 use Rattle.flat_meaning.specs.Allowed.{pinned}
-use Rattle.flat_meaning.specs.Events.{State, after_serves, moved_state, serving_state}
+use Rattle.flat_meaning.specs.Events.{MachineState, after_serves, moved_state, serving_state}
 use Rattle.flat_meaning.specs.Image.{Image}
 use Rattle.flat_meaning.specs.Stages.{Stage, thread_at}
 use Rattle.flat_meaning.specs.Words.{Words, word_at}
@@ -77,11 +77,11 @@ HasNoRoom pinned h size = (number : ℕ) → number < h.count → room_in pinned
 
 -- the storage when a thread's turn comes to be served: the objects have moved, the threads below it were served, and the old objects of their
 -- reallocs are there
-abbrev pub storage_at_turn : Image Spot → State Spot → (thread : ℕ) → Storage
+abbrev pub storage_at_turn : Image Spot → MachineState Spot → (thread : ℕ) → Storage
 storage_at_turn x s thread = let moved = serving_state (moved_state (sweep_moves x s) s) in (after_serves x (serves_from x (range_with_len 0 thread) moved) moved).memory.storage
 
 -- a thread waited at an allocation, and was served: it got null just where there was no room for it then, or no free id
-pub record IsNullForRoom (x : Image Spot) (s : State Spot) (v : Served) : Type 0 where
+pub record IsNullForRoom (x : Image Spot) (s : MachineState Spot) (v : Served) : Type 0 where
   pub stage : Stage Spot
   pub waited : own_at s.own v.thread ≡ Some stage
   pub asks : Allocation

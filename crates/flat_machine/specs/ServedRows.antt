@@ -10,7 +10,7 @@ use Rattle.struct_ir.specs.Nodes.{constant, global, calloc, realloc, free, start
 use Rattle.ak_trace.specs.declared.endings.TrapKind.TheVariants as kinds
 use Rattle.flat_meaning.specs.declared.endings.Stop.TheVariants.{AtStep}
 use Rattle.flat_meaning.specs.AllocRows.{object}
-use Rattle.flat_meaning.specs.Events.{State, Serve, Event, local, after_all, first_state}
+use Rattle.flat_meaning.specs.Events.{MachineState, Serve, Event, local, after_all, first_state}
 use Rattle.flat_meaning.specs.Image.{Limits, Image, linear_image}
 use Rattle.flat_meaning.specs.SmallCodes.{instrs, behind, does, malloc_bytes, store_int, load_int, print_int}
 use Rattle.flat_meaning.specs.Stages.{Stage, thread_at}
@@ -29,18 +29,18 @@ pub data Call : Type 0 where
   sweeps : Call
 
 -- the event of a thread's act
-abbrev pub act_event : Image Spot → State Spot → (thread : ℕ) → Option (Stage Spot) → List Event
+abbrev pub act_event : Image Spot → MachineState Spot → (thread : ℕ) → Option (Stage Spot) → List Event
 act_event x s thread None = []
 act_event x s thread (Some stage) = events_of x thread s.memory stage AtStep
 
 -- the event of a call
-abbrev pub event_of : Image Spot → State Spot → Call → List Event
+abbrev pub event_of : Image Spot → MachineState Spot → Call → List Event
 event_of x s (goes thread) = local thread ∷ []
 event_of x s (acts thread) = act_event x s thread (own_at s.own thread)
 event_of x s sweeps = barrier_of x s ∷ []
 
 -- the state behind calls
-abbrev pub behind_calls : Image Spot → List Call → State Spot → State Spot
+abbrev pub behind_calls : Image Spot → List Call → MachineState Spot → MachineState Spot
 behind_calls x [] s = s
 behind_calls x (c ∷ calls) s = behind_calls x calls (after_all x (event_of x s c) s)
 
@@ -59,7 +59,7 @@ told_of thread (made_thread number) = []
 told_of thread turned = record { thread = thread; turned = turned } ∷ []
 
 -- of a thread's act
-abbrev pub told_act : Image Spot → State Spot → (thread : ℕ) → Option (Stage Spot) → List Told
+abbrev pub told_act : Image Spot → MachineState Spot → (thread : ℕ) → Option (Stage Spot) → List Told
 told_act x s thread None = []
 told_act x s thread (Some stage) = told_of thread (turned_at x thread s.memory AtStep (thread_at x stage))
 
@@ -68,13 +68,13 @@ abbrev pub told_serve : Serve → Told
 told_serve v = record { thread = v.thread; turned = malloc_turned v.choice }
 
 -- of a call
-abbrev pub told_call : Image Spot → State Spot → Call → List Told
+abbrev pub told_call : Image Spot → MachineState Spot → Call → List Told
 told_call x s (goes thread) = []
 told_call x s (acts thread) = told_act x s thread (own_at s.own thread)
 told_call x s sweeps = map told_serve (sweep_serves x s)
 
 -- of calls
-abbrev pub told_calls : Image Spot → List Call → State Spot → List Told
+abbrev pub told_calls : Image Spot → List Call → MachineState Spot → List Told
 told_calls x [] s = []
 told_calls x (c ∷ calls) s = told_call x s c ++ told_calls x calls (after_all x (event_of x s c) s)
 

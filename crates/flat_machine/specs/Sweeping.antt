@@ -13,7 +13,7 @@ use Rattle.flat_meaning.specs.Memory.{Made}
 use Rattle.flat_meaning.specs.Accesses.{Choice, got}
 use Rattle.flat_meaning.specs.Stages.{Stage, thread_at}
 use Rattle.flat_meaning.specs.Ready as stages
-use Rattle.flat_meaning.specs.Events.{State, Serve, stage_made, moved_state, serving_state, served_state, after_serves}
+use Rattle.flat_meaning.specs.Events.{MachineState, Serve, stage_made, moved_state, serving_state, served_state, after_serves}
 use Rattle.flat_meaning.specs.Allowed.{pinned}
 use Rattle.flat_rules.specs.Entries.{barrier_entry, served_entry}
 use Rattle.flat_rules.specs.Machine.{Served, Swept}
@@ -44,7 +44,7 @@ stages_home (t ∷ ts) [] = None ∷ stages_home ts []
 stages_home (t ∷ ts) (c ∷ home) = stage_home t c ∷ stages_home ts home
 
 -- the state
-abbrev pub at_home : Shared → List (Option Context) → State Spot
+abbrev pub at_home : Shared → List (Option Context) → MachineState Spot
 at_home s home = record { memory = s.memory; own = stages_home s.memory.threads home; end = None }
 
 -- ---- moves
@@ -54,13 +54,13 @@ abbrev pub moves_of : ((at : ℕ) → Bool) → SubHeaps → List Move
 moves_of pinned h = slide_moves pinned h.size 0 h.objects
 
 -- those of a barrier
-abbrev pub sweep_moves : Image Spot → State Spot → List Move
+abbrev pub sweep_moves : Image Spot → MachineState Spot → List Move
 sweep_moves x s = moves_of (pinned x s) s.memory.storage.heaps
 
 -- ---- served allocations
 
 -- what is chosen for an allocation that waits
-abbrev pub serve_of : Image Spot → State Spot → (thread : ℕ) → Stage Spot → Serve
+abbrev pub serve_of : Image Spot → MachineState Spot → (thread : ℕ) → Stage Spot → Serve
 serve_of x s thread stage = let p = (thread_at x stage).top in record { thread = thread; choice = choice_here (served_choice s.memory.storage) p.own (x.flow.here p.at) }
 
 -- where a thread waits at one
@@ -69,23 +69,23 @@ if_wants true v = v ∷ []
 if_wants false v = []
 
 -- of a thread
-abbrev pub serves_if : Image Spot → State Spot → (thread : ℕ) → Option (Stage Spot) → List Serve
+abbrev pub serves_if : Image Spot → MachineState Spot → (thread : ℕ) → Option (Stage Spot) → List Serve
 serves_if x s thread None = []
 serves_if x s thread (Some stage) = if_wants (stages.wants_room x stage) (serve_of x s thread stage)
 
 -- of these threads, one after the other
-abbrev pub serves_from : Image Spot → List ℕ → State Spot → List Serve
+abbrev pub serves_from : Image Spot → List ℕ → MachineState Spot → List Serve
 serves_from x [] s = []
 serves_from x (thread ∷ threads) s = let v = serves_if x s thread (own_at s.own thread) in v ++ serves_from x threads (after_serves x v s)
 
 -- of all threads, in rising order, once the objects have moved
-abbrev pub sweep_serves : Image Spot → State Spot → List Serve
+abbrev pub sweep_serves : Image Spot → MachineState Spot → List Serve
 sweep_serves x s = serves_from x (range_with_len 0 (length s.own)) (serving_state (moved_state (sweep_moves x s) s))
 
 -- ---- behind it
 
 -- the state, without the old objects of reallocs that were served
-abbrev pub swept_state : Image Spot → State Spot → State Spot
+abbrev pub swept_state : Image Spot → MachineState Spot → MachineState Spot
 swept_state x s = served_state (after_serves x (sweep_serves x s) (serving_state (moved_state (sweep_moves x s) s)))
 
 -- a context, where this is its thread's stage; a blank one stays blank, and one whose allocation was served waits for nothing
@@ -138,7 +138,7 @@ abbrev pub with_barrier : Barriers → List Move → LastBarrier → Barriers
 with_barrier w moves last = record { count = counted (w.count + 1); objects = counted (w.objects + length moves); bytes = counted (w.bytes + sum_by (λ m. m.size) moves); emptied = w.emptied; last = Some last }
 
 -- what threads share behind a barrier, with its entries, told with worker 0
-abbrev pub shared_swept : Image Spot → Shared → (for_room : Bool) → State Spot → Shared
+abbrev pub shared_swept : Image Spot → Shared → (for_room : Bool) → MachineState Spot → Shared
 shared_swept x old for_room s = let moves = sweep_moves x s in record {
   memory = (swept_state x s).memory;
   output_limit = old.output_limit;

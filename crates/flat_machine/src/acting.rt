@@ -5,7 +5,7 @@ ghost use Rattle.struct_ir.specs.Instrs.{LinearCode};
 ghost use Rattle.struct_ir.specs.Views.{step_view};
 ghost use Rattle.flat_meaning.specs.declared.endings.Stop.{Stop as FlatStop};
 ghost use Rattle.flat_meaning.specs.declared.endings.Stop.TheVariants.{AtStep};
-ghost use Rattle.flat_meaning.specs.Actions.{acted};
+ghost use Rattle.flat_meaning.specs.Actions.{acted_on_memory};
 ghost use Rattle.flat_meaning.specs.Words.{target_of, word_at};
 ghost use Rattle.flat_rules.specs.Answers.{step_of};
 ghost use Rattle.flat_threads.specs.Belonging.{HasStopped, IsContextOf};
@@ -98,7 +98,7 @@ impl Shared {
         requires step { IsStepOf (top_of ctx.now).own (step_view node.now) }
         requires idle { self.old.memory.leaving ≡ None }
         ensures does { (code : LinearCode) → let l = (top_of ctx.now).own in let s = step_view node.now in Does self.old self.new result
-            (acted (image_of code self.old).layout ctx.now.number (action_choice (malloc_choice self.old.memory.storage) l s.action s.temps) s.action (map (target_of l) s.places) (map (word_at l) s.temps) self.old.memory) }
+            (acted_on_memory (image_of code self.old).layout ctx.now.number (action_choice (malloc_choice self.old.memory.storage) l s.action s.temps) s.action (map (target_of l) s.places) (map (word_at l) s.temps) self.old.memory) }
         ensures told { (code : LinearCode) → let l = (top_of ctx.now).own in let s = step_view node.now in
             Went result (done_turned (image_of code self.old) self.old.memory (action_choice (malloc_choice self.old.memory.storage) l s.action s.temps) s.action) }
         ensures waits { let l = (top_of ctx.now).own in let s = step_view node.now in

@@ -3,7 +3,7 @@
 ghost use Rattle.std.specs.Prelude.{◌≡◌, ◌+◌, ◌*◌, ◌^◌, ◌<◌, ◌≤◌, [], ◌∷◌, ◌++◌, All, length, flat_map, nat_lt, count_by, sum_by, map, true, Some, IsSome};
 ghost use Rattle.struct_ir.specs.Instrs.{LinearCode};
 ghost use Rattle.struct_ir.specs.Views.{step_view};
-ghost use Rattle.flat_meaning.specs.Actions.{acted};
+ghost use Rattle.flat_meaning.specs.Actions.{acted_on_memory};
 ghost use Rattle.flat_meaning.specs.Memory.{served, serving, words_leaving};
 ghost use Rattle.flat_meaning.specs.Ready.{takes_room};
 ghost use Rattle.flat_meaning.specs.Words.{target_of, word_at};
@@ -170,7 +170,7 @@ impl Shared {
         requires serves { IsSome self.old.memory.leaving }
         requires leaving { length (words_leaving self.old.memory.leaving) < 64 }
         ensures does { (code : LinearCode) → let l = (top_of ctx.now).own in let s = step_view node.now in takes_room s.action ≡ true → Does self.old self.new result
-            (acted (image_of code self.old).layout ctx.now.number (action_choice (served_choice self.old.memory.storage) l s.action s.temps) s.action (map (target_of l) s.places) (map (word_at l) s.temps) self.old.memory) }
+            (acted_on_memory (image_of code self.old).layout ctx.now.number (action_choice (served_choice self.old.memory.storage) l s.action s.temps) s.action (map (target_of l) s.places) (map (word_at l) s.temps) self.old.memory) }
         ensures told { let l = (top_of ctx.now).own in let s = step_view node.now in takes_room s.action ≡ true →
             Went result (malloc_turned (action_choice (served_choice self.old.memory.storage) l s.action s.temps)) }
     {

@@ -5,7 +5,7 @@ ghost use Rattle.flat_store.specs.Flat.{first_outside};
 ghost use Rattle.flat_store.specs.Word.{low_bytes};
 ghost use Rattle.ak_trace.specs.declared.endings.TrapKind.TheVariants as kinds;
 ghost use Rattle.flat_meaning.specs.Accesses.{went, within};
-ghost use Rattle.flat_meaning.specs.Actions.{becomes, changed, compared, number_at};
+ghost use Rattle.flat_meaning.specs.Actions.{word_after_change, changed, compared, number_at};
 ghost use Rattle.flat_meaning.specs.Memory.{written};
 ghost use Rattle.flat_threads.specs.Targets.{target_view};
 ghost use Rattle.flat_rules.specs.Machine as turns;
@@ -77,7 +77,7 @@ impl Shared {
 
 // The word of what a number becomes.
 fn changed_word(how: Change, ty: IntType, old: u64, by: u64) -> u64
-    ensures { result ≡ becomes how ty old by }
+    ensures { result ≡ word_after_change how ty old by }
 {
     match how {
         Change::Add => add(ty, old, by),

@@ -10,7 +10,7 @@ use Rattle.struct_ir.specs.meaning.Rows.{broke}
 use Rattle.ak_trace.specs.declared.endings.End.TheVariants as ends
 use Rattle.ak_trace.specs.declared.endings.TrapKind.TheVariants as kinds
 use Rattle.flat_meaning.specs.Image.{structured_image, linear_image}
-use Rattle.flat_meaning.specs.Stages.{starts, can_go}
+use Rattle.flat_meaning.specs.Stages.{starts, can_advance}
 use Rattle.flat_meaning.specs.Events.{Event}
 use Rattle.flat_meaning.specs.SmallCodes.{row, instrs, small, counting_up, through_null, freed_twice, read_when_freed, read_past_the_end, unended_text, null_text}
 use Rattle.flat_meaning.specs.Rows.{go, looks, steps, gets, print_events, seen, structured_seen, linear_seen, turns, source_seen, cut}
@@ -74,7 +74,7 @@ object_of size = record { size = size; align = 8 } ∷ []
 
 -- there is room for main
 abbrev pub begins : (temps slots size : ℕ) → Bool
-begins temps slots size = can_go (structured_image (wide_main temps slots (object_of size)) (small 0)) (starts 0 0)
+begins temps slots size = can_advance (structured_image (wide_main temps slots (object_of size)) (small 0)) (starts 0 0)
 
 -- a machine of 16 registers, 4 pin slots and 32 bytes of stack, of which an object takes a byte more than it has, up to a multiple of 16
 pub record StackRowsHold : Type 0 where

@@ -22,7 +22,7 @@ use Rattle.ak_trace.specs.declared.endings.End.TheVariants as ends
 use Rattle.flat_meaning.specs.Image.{limits_for, Layout, Image, structured_image, plain_size}
 use Rattle.flat_meaning.specs.Accesses.{Choice}
 use Rattle.flat_meaning.specs.Stages.{Stage, steps, thread_at}
-use Rattle.flat_meaning.specs.Events.{State, Serve, Event, act, barrier, after, after_all, first_state}
+use Rattle.flat_meaning.specs.Events.{MachineState, Serve, Event, act, barrier, after, after_all, first_state}
 use Rattle.flat_meaning.specs.Order.{order_of, picks_of, tried_by}
 use Rattle.flat_meaning.specs.Allowed.{StandsBefore, pinned, IsAllowed, AreAllowed}
 use Rattle.flat_meaning.specs.Names.{Name}
@@ -33,7 +33,7 @@ use Rattle.flat_meaning.specs.Reaching.{Unbroken, Waits, Broken, StepReaches}
 -- ---- the step that may come next
 
 -- the turns that an event does, and those that it tries
-abbrev pub turns_at : Image Position → State Position → Event → List Pick
+abbrev pub turns_at : Image Position → MachineState Position → Event → List Pick
 turns_at x s e = picks_of x s e ++ tried_by x s e
 
 -- each of these turns comes out so
@@ -47,7 +47,7 @@ IsTrap end = ⊥
 
 -- whatever step may come next: where its turn breaks no rule, what it touches is what that reaches; where it waits for a mutex or a
 -- thread, its turn waits, or breaks a rule; and where it traps, its turn breaks one
-pub record StepsFollow (x : Image Position) (p : Ir) (names : List Name) (u : runs.State (Thread Position Own)) (s : State Position) : Type 0 where
+pub record StepsFollow (x : Image Position) (p : Ir) (names : List Name) (u : runs.State (Thread Position Own)) (s : MachineState Position) : Type 0 where
   pub reaches : (thread : ℕ) (choice : Choice) (t : Thread Position Own) (stage : Stage Position) → own_at u.own thread ≡ Some t → own_at s.own thread ≡ Some stage
       → IsAllowed x s (act thread choice) → StandsBefore x (own_at s.own thread) steps
       → All (λ (k : Pick). Unbroken (picked (program_of p) u k) → StepReaches x p names u s.memory k t (thread_at x stage)) (turns_at x s (act thread choice))
@@ -57,7 +57,7 @@ pub record StepsFollow (x : Image Position) (p : Ir) (names : List Name) (u : ru
 -- ---- all events
 
 -- by the names that the events made the machine's state stands for the source's, and whatever step comes next follows the source's
-pub record Simulates (x : Image Position) (p : Ir) (es : List Event) (u : runs.State (Thread Position Own)) (s : State Position) : Type 0 where
+pub record Simulates (x : Image Position) (p : Ir) (es : List Event) (u : runs.State (Thread Position Own)) (s : MachineState Position) : Type 0 where
   pub names : List Name
   pub made : AreMadeBy x es names
   pub stands : StandsFor x p names u s
@@ -104,7 +104,7 @@ pub record IsLoadable (y : Layout) : Type 0 where
 
 -- objects and table agree; and the moves of a barrier that may come next keep each object's bytes, at the address that the table then
 -- has, and the place of each that is pinned
-pub record KeepsStorage {P : Type 0} (x : Image P) (s : State P) : Type 0 where
+pub record KeepsStorage {P : Type 0} (x : Image P) (s : MachineState P) : Type 0 where
   pub consistent : IsConsistent s.memory.storage
   pub kept : (moves : List Move) (served : List Serve) → IsAllowed x s (barrier moves served) → KeepsObjects (pinned x s) moves s.memory.storage (after_plan moves s.memory.storage)
 

@@ -6,14 +6,14 @@ use Rattle.flat_meaning.specs.Image.{Image, structured_image}
 use Rattle.flat_meaning.specs.Accesses.{wait}
 use Rattle.flat_meaning.specs.Stages.{Stage, thread_at}
 use Rattle.flat_meaning.specs.Ready.{wants_room}
-use Rattle.flat_meaning.specs.Events.{State, Event, local, look, act, after_all, first_state}
+use Rattle.flat_meaning.specs.Events.{MachineState, Event, local, look, act, after_all, first_state}
 use Rattle.flat_meaning.specs.Touched.{Touched, reading, writing, touched_at}
 use Rattle.flat_meaning.specs.SmallCodes.{structured_main, small, counting_up, unended_text}
 use Rattle.flat_meaning.specs.Rows.{go, gets, looks, steps}
 use Rattle.flat_meaning.specs.ThreadRows.{with_thread, main_locks, locking}
 
 -- what the step at which a thread stands reads and writes
-abbrev pub touched_if : {P : Type 0} → Image P → State P → Option (Stage P) → List Touched
+abbrev pub touched_if : {P : Type 0} → Image P → MachineState P → Option (Stage P) → List Touched
 touched_if x s None = []
 touched_if x s (Some stage) = let q = (thread_at x stage).top in touched_at x.layout q.own s.memory (x.flow.here q.at)
 

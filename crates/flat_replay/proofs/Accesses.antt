@@ -19,7 +19,7 @@ use Rattle.flat_rules.specs.declared.settings.Settings.{Settings}
 use Rattle.flat_rules.specs.Replays as replays
 use Rattle.flat_rules.specs.Replays.{settled, step}
 use Rattle.flat_rules.specs.Rules.{rules_of}
-use Rattle.flat_rules.specs.States.{State, start}
+use Rattle.flat_rules.specs.States.{RunState, start}
 use Rattle.flat_rules.specs.inner.Steps.{IsFirst, same_kind, step_cases}
 use Rattle.flat_threads.specs.Contexts.{Context, IsProgram}
 use Rattle.world_rules.specs.Every.{IsTail}
@@ -45,7 +45,7 @@ use Rattle.flat_replay.proofs.TurnAccesses.{turn_here}
 
 module _ (follow : LinearCodeFollowsCode) (p : Ir) (guarded : IsGuarded p) (code : LinearCode) (emitted : IsEmitted p code) (lawful : AllLawful code.funcs) (program : IsProgram code) (s : Settings) where
   -- an entry that begins an event, and the state before it
-  module _ (before : List Entry) (e : Entry) (x y : State Shared Context) (ran : replays.run (machine_of code) (rules_of s) before (start (machine_of code) (rules_of s) (first_shared code (settings_limits s))) ≡ Some x)
+  module _ (before : List Entry) (e : Entry) (x y : RunState Shared Context) (ran : replays.run (machine_of code) (rules_of s) before (start (machine_of code) (rules_of s) (first_shared code (settings_limits s))) ≡ Some x)
       (st : step (machine_of code) (rules_of s) x e ≡ Some y) (none_due : x.due ≡ []) where
     holds : Holding code (rules_of s) program (settings_limits s) before x
     holds = holding code s program (guarded_fits p guarded code emitted s) before x ran
@@ -68,7 +68,7 @@ module _ (follow : LinearCodeFollowsCode) (p : Ir) (guarded : IsGuarded p) (code
         serves_here p code s program (λ es allowed. (follow p guarded code emitted lawful program.valid s.output s.subheaps s.subheap s.ids (guarded_fits p guarded code emitted s).shape es allowed).follows)
         before x leads holds.good (told_now code (settings_limits s) before x none_due holds.told) going e y is f
 
-  module _ (before : List Entry) (e : Entry) (x y : State Shared Context) (ran : replays.run (machine_of code) (rules_of s) before (start (machine_of code) (rules_of s) (first_shared code (settings_limits s))) ≡ Some x)
+  module _ (before : List Entry) (e : Entry) (x y : RunState Shared Context) (ran : replays.run (machine_of code) (rules_of s) before (start (machine_of code) (rules_of s) (first_shared code (settings_limits s))) ≡ Some x)
       (st : step (machine_of code) (rules_of s) x e ≡ Some y) where
     -- what is due are served allocations, and a barrier behind its evacuation
     turn_none_due : e.kind ≡ kind.turn → x.due ≡ []
@@ -94,7 +94,7 @@ module _ (follow : LinearCodeFollowsCode) (p : Ir) (guarded : IsGuarded p) (code
           alone = t.alone;
           next = y;
           goes = ran_on code s before x e y ran st;
-          memory = ap (λ (z : State Shared Context). z.shared.memory) n.is ∙ t.memory;
+          memory = ap (λ (z : RunState Shared Context). z.shared.memory) n.is ∙ t.memory;
           keeps = t.keeps;
         })
         b.st)
@@ -111,9 +111,9 @@ module _ (follow : LinearCodeFollowsCode) (p : Ir) (guarded : IsGuarded p) (code
         })
         st
 
-  module _ (log : List Entry) (z : State Shared Context) (replayed : replay code s log ≡ Some z) where
+  module _ (log : List Entry) (z : RunState Shared Context) (replayed : replay code s log ≡ Some z) where
     -- what holds of each entry of it, by the states before and after
-    each : (R : List Entry → Entry → Type 0) → ((before : List Entry) (e : Entry) (x y : State Shared Context) → replays.run (machine_of code) (rules_of s) before (start (machine_of code) (rules_of s) (first_shared code (settings_limits s))) ≡ Some x → step (machine_of code) (rules_of s) x e ≡ Some y → R before e)
+    each : (R : List Entry → Entry → Type 0) → ((before : List Entry) (e : Entry) (x y : RunState Shared Context) → replays.run (machine_of code) (rules_of s) before (start (machine_of code) (rules_of s) (first_shared code (settings_limits s))) ≡ Some x → step (machine_of code) (rules_of s) x e ≡ Some y → R before e)
         → (before : List Entry) (e : Entry) (more : List Entry) → log ≡ before ++ e ∷ more → R before e
     each R holds_there before e more is =
         option_and_then_some (settled (machine_of code) (rules_of s)) (replays.run (machine_of code) (rules_of s) log (start (machine_of code) (rules_of s) (first_shared code (settings_limits s)))) z replayed (λ w ran _.

@@ -15,8 +15,8 @@ use Rattle.flat_meaning.specs.Accesses.{Done, Fault, plain, within}
 use Rattle.flat_meaning.specs.Actions as actions
 use Rattle.flat_meaning.specs.Actions.{is_free, joined_if}
 use Rattle.flat_meaning.specs.Allowed.{IsAllowed, MayAct, MayDo, MayStep, MayStepAt, MayTry}
-use Rattle.flat_meaning.specs.Effects.{act_before, act_effect, acted, own_list_of}
-use Rattle.flat_meaning.specs.Events.{State, act, after, end_or, put_if}
+use Rattle.flat_meaning.specs.Effects.{act_before, act_effect, effect_of_outcome, own_list_of}
+use Rattle.flat_meaning.specs.Events.{MachineState, act, after, end_or, put_if}
 use Rattle.flat_meaning.specs.Image.{Image}
 use Rattle.flat_meaning.specs.Machine.{served_by, words_machine, words_world}
 use Rattle.flat_meaning.specs.Memory.{Made, Memory}
@@ -31,7 +31,7 @@ use Rattle.flat_replay.proofs.WaitsMade.{IsMade}
 module _ (x : Image Spot) (thread : ℕ) (m : Memory) (t : Thread Spot Words) where
   -- a step that waits, for which nothing is chosen
   record ActionBlocks (a : Action) (ts : List Target) (ws : List ℕ) : Type 0 where
-    pub waits : actions.acted x.layout thread plain a ts ws m ≡ choices.waits
+    pub waits : actions.acted_on_memory x.layout thread plain a ts ws m ≡ choices.waits
     pub told : tried_action a ≡ answers.Plain
     pub may : (temps : List ℕ) → MayDo m.storage t.top.own plain a temps × MayTry m.storage t.top.own plain a temps
 
@@ -103,7 +103,7 @@ module _ (x : Image Spot) (thread : ℕ) (m : Memory) (t : Thread Spot Words) wh
 
 -- ---- in a state
 
-module _ (x : Image Spot) (s : State Spot) (thread : ℕ) where
+module _ (x : Image Spot) (s : MachineState Spot) (thread : ℕ) where
   -- its step may come, leaves the run going on, and is tried
   pub record ActBlocks : Type 0 where
     pub allowed : IsAllowed x s (act thread plain)
@@ -118,7 +118,7 @@ module _ (x : Image Spot) (s : State Spot) (thread : ℕ) where
       let h : HereBlocks x thread s.memory t (x.flow.here t.top.at) = here_blocks x thread s.memory t (x.flow.here t.top.at) e room made in
       let may : MayStep x s.memory plain t (before x t) = subst (λ (b : Before). MayStep x s.memory plain t b) (sym h.steps_) h.may in
       let end : (act_before x thread plain (waiting t) t s.memory (before x t)).end ≡ None =
-      ap (λ (b : Before). (act_before x thread plain (waiting t) t s.memory b).end) h.steps_ ∙ ap (λ (o : Outcome Spot Words Fault Memory). (acted thread (waiting t) t (own_list_of (x.flow.here t.top.at)) s.memory o).end) h.outcome in
+      ap (λ (b : Before). (act_before x thread plain (waiting t) t s.memory b).end) h.steps_ ∙ ap (λ (o : Outcome Spot Words Fault Memory). (effect_of_outcome thread (waiting t) t (own_list_of (x.flow.here t.top.at)) s.memory o).end) h.outcome in
       let tries : tried_before x s.memory thread plain t (before x t) ≡ pick thread answers.Plain ∷ [] =
       ap (λ (b : Before). tried_before x s.memory thread plain t b) h.steps_ ∙ ap (λ (o : Outcome Spot Words Fault Memory). tried_if thread plain (x.flow.here t.top.at) o) h.outcome ∙ ap (λ a. pick thread a ∷ []) h.told in
       record {

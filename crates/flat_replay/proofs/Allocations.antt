@@ -11,7 +11,7 @@ use Rattle.flat_meaning.specs.Accesses as choices
 use Rattle.flat_meaning.specs.Accesses.{Choice, Done, wait}
 use Rattle.flat_meaning.specs.Actions as actions
 use Rattle.flat_meaning.specs.Allowed.{IsRenewable, MayAct, MayTry}
-use Rattle.flat_meaning.specs.Effects.{Effect, acted}
+use Rattle.flat_meaning.specs.Effects.{Effect, effect_of_outcome}
 use Rattle.flat_meaning.specs.Image.{Image}
 use Rattle.flat_meaning.specs.Machine.{served_by, words_machine, words_world}
 use Rattle.flat_meaning.specs.Memory.{Memory, left_by, with_storage}
@@ -22,11 +22,11 @@ use Rattle.flat_meaning.specs.Words.{Target, Words, target_of, word_at}
 module _ (x : Image Spot) (thread : ℕ) (m : Memory) (stage : Stage Spot) (t : Thread Spot Words) where
   -- what comes of a step that was done so
   abbrev effect_of : (list : Option (List ℕ)) → Done → (l : Words) → (to : Option ℕ) → Effect Spot
-  effect_of list d l to = acted thread stage t list m (served x.flow t (served_by l to d))
+  effect_of list d l to = effect_of_outcome thread stage t list m (served x.flow t (served_by l to d))
 
   -- and of what stands there
   abbrev effect_here : (list : Option (List ℕ)) → Choice → Here → Effect Spot
-  effect_here list choice h = acted thread stage t list m (stop_at x.flow (words_machine x.layout thread) (words_world x.layout thread) x.start choice t m h)
+  effect_here list choice h = effect_of_outcome thread stage t list m (stop_at x.flow (words_machine x.layout thread) (words_world x.layout thread) x.start choice t m h)
 
   -- ---- left waiting
 
@@ -59,7 +59,7 @@ module _ (x : Image Spot) (thread : ℕ) (m : Memory) (stage : Stage Spot) (t : 
     by true is = tt
     by false is = guarded_waits m.leaving is
 
-  action_waits : (a : Action) (ts : List Target) (temps : List ℕ) → takes_room a ≡ true → MayTry m.storage t.top.own wait a temps → NoFault (actions.acted x.layout thread wait a ts (map (word_at t.top.own) temps) m)
+  action_waits : (a : Action) (ts : List Target) (temps : List ℕ) → takes_room a ≡ true → MayTry m.storage t.top.own wait a temps → NoFault (actions.acted_on_memory x.layout thread wait a ts (map (word_at t.top.own) temps) m)
   action_waits (load how) ts temps e may = absurd cc
   action_waits (store how) ts temps e may = absurd cc
   action_waits (copy_bytes align same) ts temps e may = absurd cc
@@ -152,7 +152,7 @@ module _ (x : Image Spot) (thread : ℕ) (m : Memory) (stage : Stage Spot) (t : 
         either_done (word == 0) (choices.allocated choice size m) (choices.guarded m.leaving word m.storage (choices.renewed choice word size m)) (allocated_serves choice size)
         (guarded_serves m.leaving word (choices.renewed choice word size m) (renewed_serves choice word size))
 
-    action_serves : (a : Action) (ts : List Target) (ws : List ℕ) → takes_room a ≡ true → ServesOn (actions.acted x.layout thread choice a ts ws m)
+    action_serves : (a : Action) (ts : List Target) (ws : List ℕ) → takes_room a ≡ true → ServesOn (actions.acted_on_memory x.layout thread choice a ts ws m)
     action_serves (load how) ts ws e = absurd cc
     action_serves (store how) ts ws e = absurd cc
     action_serves (copy_bytes align same) ts ws e = absurd cc

@@ -4,7 +4,7 @@ use Rattle.std.specs.Prelude.{◌⊎◌}
 use mathlib.Core.Logic.{inl, inr}
 use Rattle.std.proofs.Math.ListN.{get_or-map, length-map}
 use Rattle.flat_rules.specs.Machine.{Machine}
-use Rattle.flat_rules.specs.States.{State, Place, unbegun, home, out, gone, Mood, free, asked, must, place_at, most_threads}
+use Rattle.flat_rules.specs.States.{RunState, Place, unbegun, home, out, gone, Mood, free, asked, must, place_at, most_threads}
 use Rattle.flat_rules.specs.Events.{most_local}
 use Rattle.flat_rules.specs.Lawful.{IsFlat}
 use Rattle.flat_rules.specs.inner.Cases.{same_number}
@@ -51,7 +51,7 @@ module _ {C : Type 0} (w : ℕ) where
 
 module _ {S K C : Type 0} (machine : K → Machine S C) (SharedOf : K → S → Type 0) (ContextOf : K → C → Type 0) (flat : (code : K) → IsFlat (machine code) (SharedOf code) (ContextOf code)) (first : Whole S K C)
     (x : Whole S K C) (hands : List (Option (Hand C))) (at : IsAt machine SharedOf first x hands) where
-  abbrev s : State S C
+  abbrev s : RunState S C
   s = at.reaches.replays.state
 
   code_is : x.code ≡ first.code

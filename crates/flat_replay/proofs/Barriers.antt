@@ -23,7 +23,7 @@ use Rattle.flat_rules.specs.Lawful.{IsOpened}
 use Rattle.flat_rules.specs.Machine.{Machine, Served, cleared, sweep}
 use Rattle.flat_rules.specs.Replays.{run, settled, step}
 use Rattle.flat_rules.specs.Rules.{Rules, rules_of}
-use Rattle.flat_rules.specs.States.{State, homes_of, is_out, none_out, start, waits_for_room}
+use Rattle.flat_rules.specs.States.{RunState, homes_of, is_out, none_out, start, waits_for_room}
 use Rattle.flat_rules.specs.inner.Cases.{Cases, Holds, event_holds, same_number}
 use Rattle.flat_rules.specs.inner.Steps.{IsFirst, IsNext, entry_is, run-append, same_kind, step_cases}
 use Rattle.flat_threads.specs.Contexts.{Context, IsProgram}
@@ -44,7 +44,7 @@ use Rattle.flat_replay.proofs.Consistent.{Good, all_good, barrier_here, evacuati
 
 -- ---- which event a barrier's entry begins
 
-module _ {S C : Type 0} (m : Machine S C) (rules : Rules) (x : State S C) (w : ℕ) where
+module _ {S C : Type 0} (m : Machine S C) (rules : Rules) (x : RunState S C) (w : ℕ) where
   -- the event is a barrier, or an evacuation and a barrier, which comes where none is out
   pub record Sweeps (v : Event S C) : Type 0 where
     pub alone : none_out m rules x ≡ true
@@ -74,18 +74,18 @@ moved_by w false false ss d ds h = let a : barrier_entry w false ≡ d = cc h in
 
 module _ {S C : Type 0} (m : Machine S C) (rules : Rules) (shared : S) where
   -- an entry that is due, and a barrier's, stands behind the entry of its evacuation
-  pub record Behind (before : List Entry) (x : State S C) (d : Entry) : Type 0 where
+  pub record Behind (before : List Entry) (x : RunState S C) (d : Entry) : Type 0 where
     pub front : List Entry
     pub v : Entry
     pub is : before ≡ front ++ v ∷ []
     pub kind_is : v.kind ≡ kind.barrier
     pub how_is : v.how ≡ how.evacuation
     pub apart : d.how ≢ how.evacuation
-    pub z : State S C
+    pub z : RunState S C
     pub ran : run m rules front (start m rules shared) ≡ Some z
     pub st : step m rules z v ≡ Some x
 
-  module _ (before : List Entry) (x : State S C) (ran : run m rules before (start m rules shared) ≡ Some x) (e : Entry) (y : State S C) (is : e.kind ≡ kind.barrier) where
+  module _ (before : List Entry) (x : RunState S C) (ran : run m rules before (start m rules shared) ≡ Some x) (e : Entry) (y : RunState S C) (is : e.kind ≡ kind.barrier) where
     pub due_behind : IsNext m rules x e y → Behind before x e
     due_behind n =
         let same : e ≡ n.d = entry_is e n.d n.same in
@@ -99,7 +99,7 @@ module _ {S C : Type 0} (m : Machine S C) (rules : Rules) (shared : S) where
 
 -- ---- what it keeps
 
-pub ran_on : (code : LinearCode) (s : Settings) (log : List Entry) (x : State Shared Context) (e : Entry) (y : State Shared Context)
+pub ran_on : (code : LinearCode) (s : Settings) (log : List Entry) (x : RunState Shared Context) (e : Entry) (y : RunState Shared Context)
     → run (machine_of code) (rules_of s) log (start (machine_of code) (rules_of s) (first_shared code (settings_limits s))) ≡ Some x → step (machine_of code) (rules_of s) x e ≡ Some y
     → run (machine_of code) (rules_of s) (log ++ e ∷ []) (start (machine_of code) (rules_of s) (first_shared code (settings_limits s))) ≡ Some y
 ran_on code s log x e y ran st =
@@ -110,7 +110,7 @@ module _ (code : LinearCode) (s : Settings) (program : IsProgram code) (loadable
   abbrev m : Machine Shared Context
   m = machine_of code
 
-  abbrev first : State Shared Context
+  abbrev first : RunState Shared Context
   first = start m (rules_of s) (first_shared code (settings_limits s))
 
   none_ended : (k : ℕ) → has_ended (slice_get (first_shared code (settings_limits s)).memory.threads k) ≡ false
@@ -120,11 +120,11 @@ module _ (code : LinearCode) (s : Settings) (program : IsProgram code) (loadable
   pub opened : IsOpened m (IsSharedOf code) (first_shared code (settings_limits s))
   opened = record { of_ = opened_of code (settings_limits s) program; one = refl; going = none_ended }
 
-  good : (log : List Entry) (x : State Shared Context) → run m (rules_of s) log first ≡ Some x → Good code (rules_of s) x
+  good : (log : List Entry) (x : RunState Shared Context) → run m (rules_of s) log first ≡ Some x → Good code (rules_of s) x
   good = all_good code (rules_of s) (first_shared code (settings_limits s)) opened (first_consistent (linear_image code (settings_limits s)).layout loadable)
 
   -- its moves slide
-  slides_next : (shared : Shared) (x : State Shared Context) → IsConsistent shared.memory.storage → IsSlide (pinned (image_of code shared) (threads_home shared x)) shared.memory.storage.heaps (moves_next code shared x)
+  slides_next : (shared : Shared) (x : RunState Shared Context) → IsConsistent shared.memory.storage → IsSlide (pinned (image_of code shared) (threads_home shared x)) shared.memory.storage.heaps (moves_next code shared x)
   slides_next shared x agrees =
       let p : ℕ → Bool = pinned (image_of code shared) (threads_home shared x) in
       let h : SubHeaps = shared.memory.storage.heaps in
@@ -132,7 +132,7 @@ module _ (code : LinearCode) (s : Settings) (program : IsProgram code) (loadable
       subst (IsSlide p h) (slide_is p h (slide_moves p h.size 0 h.objects) agrees.heaps low) low
 
   -- what an evacuation leaves: what its moves do, or, where it has none, what was there
-  module _ (x : State Shared Context) where
+  module _ (x : RunState Shared Context) where
     asked_by : (on : Bool) → (cleared m on x.shared (homes_of x.places)).moved ≡ true → on ≡ true
     asked_by true e = refl
     asked_by false e = absurd (cc e)
@@ -146,7 +146,7 @@ module _ (code : LinearCode) (s : Settings) (program : IsProgram code) (loadable
     same_memory false e = refl
 
   -- a barrier, by the memory behind it
-  barrier_keeps : (x y : State Shared Context) → Good code (rules_of s) x → x.ending ≡ None → count_by is_out x.places ≡ 0 → y.shared.memory ≡ (sweep m s.evacuate x.shared (homes_of x.places)).shared.memory → BarrierKeeps code x (middle code s x) y
+  barrier_keeps : (x y : RunState Shared Context) → Good code (rules_of s) x → x.ending ≡ None → count_by is_out x.places ≡ 0 → y.shared.memory ≡ (sweep m s.evacuate x.shared (homes_of x.places)).shared.memory → BarrierKeeps code x (middle code s x) y
   barrier_keeps x y g going quiet behind =
       let agrees : IsConsistent (middle code s x).memory.storage = middle_agrees code (rules_of s) x g.held going quiet g.agrees s.evacuate in
       let b = barrier_here code (rules_of s) x g.held going quiet g.agrees s.evacuate in
@@ -158,7 +158,7 @@ module _ (code : LinearCode) (s : Settings) (program : IsProgram code) (loadable
       }
 
   -- in a state that a journal reaches
-  module _ (before : List Entry) (e : Entry) (x y : State Shared Context) (ran : run m (rules_of s) before first ≡ Some x) (is : e.kind ≡ kind.barrier) where
+  module _ (before : List Entry) (e : Entry) (x y : RunState Shared Context) (ran : run m (rules_of s) before first ≡ Some x) (is : e.kind ≡ kind.barrier) where
     -- an entry that begins an event
     module _ (f : IsFirst m (rules_of s) x e y) where
       pub swept_by_it : Sweeps m (rules_of s) x e.worker f.v
@@ -174,7 +174,7 @@ module _ (code : LinearCode) (s : Settings) (program : IsProgram code) (loadable
       going = none_ends x.ending _ f.live
 
       memory : y.shared.memory ≡ (sweep m s.evacuate x.shared (homes_of x.places)).shared.memory
-      memory = ap (λ (z : State Shared Context). z.shared.memory) f.is ∙ ap (λ (v : Event Shared Context). v.after.shared.memory) swept_by_it.is
+      memory = ap (λ (z : RunState Shared Context). z.shared.memory) f.is ∙ ap (λ (v : Event Shared Context). v.after.shared.memory) swept_by_it.is
 
       moved : (e.how ≡ how.evacuation → (cleared m s.evacuate x.shared (homes_of x.places)).moved ≡ true) × (e.how ≢ how.evacuation → (cleared m s.evacuate x.shared (homes_of x.places)).moved ≡ false)
       moved =
@@ -211,7 +211,7 @@ module _ (code : LinearCode) (s : Settings) (program : IsProgram code) (loadable
         keeps = barrier_keeps x y (good before x ran) going quiet memory;
       }
 
-  module _ (before : List Entry) (e : Entry) (x y : State Shared Context) (ran : run m (rules_of s) before first ≡ Some x) (st : step m (rules_of s) x e ≡ Some y) (is : e.kind ≡ kind.barrier) where
+  module _ (before : List Entry) (e : Entry) (x y : RunState Shared Context) (ran : run m (rules_of s) before first ≡ Some x) (st : step m (rules_of s) x e ≡ Some y) (is : e.kind ≡ kind.barrier) where
     evacuation_found : e.how ≡ how.evacuation → EvacuationBehind code s before
     evacuation_found how_is = step_cases m (rules_of s) x e y {R = EvacuationBehind code s before}
         (λ n. absurd (none_next m (rules_of s) (first_shared code (settings_limits s)) before x ran e y is how_is n))
@@ -233,7 +233,7 @@ module _ (code : LinearCode) (s : Settings) (program : IsProgram code) (loadable
           next = y;
           comes = ran_on code s before x e y ran st;
           keeps = barrier_keeps b.z y (good b.front b.z b.ran) (going b.front b.v b.z x b.ran b.kind_is f) (quiet b.front b.v b.z x b.ran b.kind_is f)
-              (ap (λ (z : State Shared Context). z.shared.memory) n.is ∙ memory b.front b.v b.z x b.ran b.kind_is f);
+              (ap (λ (z : RunState Shared Context). z.shared.memory) n.is ∙ memory b.front b.v b.z x b.ran b.kind_is f);
         })
         b.st
 
@@ -247,7 +247,7 @@ barriers_of_a_run_keep_objects code s program loadable log z replays = record {
 }
   where
     at : (before : List Entry) (e : Entry) (more : List Entry) → log ≡ before ++ e ∷ more → (R : Type 0)
-        → ((x y : State Shared Context) → run (machine_of code) (rules_of s) before (start (machine_of code) (rules_of s) (first_shared code (settings_limits s))) ≡ Some x → step (machine_of code) (rules_of s) x e ≡ Some y → R) → R
+        → ((x y : RunState Shared Context) → run (machine_of code) (rules_of s) before (start (machine_of code) (rules_of s) (first_shared code (settings_limits s))) ≡ Some x → step (machine_of code) (rules_of s) x e ≡ Some y → R) → R
     at before e more is R go =
         option_and_then_some (settled (machine_of code) (rules_of s)) (run (machine_of code) (rules_of s) log (start (machine_of code) (rules_of s) (first_shared code (settings_limits s)))) z replays (λ w ran _.
         at_entry (machine_of code) (rules_of s) (start (machine_of code) (rules_of s) (first_shared code (settings_limits s))) before e more w (ap (λ (es : List Entry). run (machine_of code) (rules_of s) es (start (machine_of code) (rules_of s) (first_shared code (settings_limits s)))) (sym is) ∙ ran) {R = R}

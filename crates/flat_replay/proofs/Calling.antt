@@ -7,12 +7,12 @@ use Rattle.ak_trace.specs.declared.entry.Entry.{Entry}
 use Rattle.ak_trace.specs.declared.endings.End.{End}
 use Rattle.ak_trace.specs.declared.endings.End.TheVariants.{TurnLimit, AllBlocked}
 use Rattle.flat_rules.specs.Machine.{Machine}
-use Rattle.flat_rules.specs.States.{State, or_else, end_of, start}
+use Rattle.flat_rules.specs.States.{RunState, or_else, end_of, start}
 use Rattle.flat_rules.specs.Lawful.{IsFlat}
 use Rattle.flat_rules.specs.Replays.{step, run}
 use Rattle.flat_rules.specs.inner.Steps.{entry_is, IsFirst, first_of, step_cases, run-append, event_run}
 use Rattle.flat_rules.specs.inner.Steps as steps
-use Rattle.world_rules.specs.Whole.{Whole, Leads, Reaches, whole_of}
+use Rattle.world_rules.specs.Whole.{Whole, Leads, LeadsFromOpening, whole_of}
 use Rattle.world_rules.specs.Calls.{end_before, entries_of, after}
 use Rattle.world_rules.specs.Allowed.{MayCall}
 use Rattle.world_rules.specs.declared.calls.Call.{Call}
@@ -21,7 +21,7 @@ use Rattle.world_rules.proofs.Invariant.{Invariant, runs_keep}
 use Rattle.world_rules.proofs.CallsKeep.{stands_of, one_state, replays_on}
 use Rattle.flat_replay.specs.declared.driver.Hand.{Hand}
 use Rattle.flat_replay.specs.inner.Hands.{hands_of, called, called_as}
-use Rattle.flat_replay.specs.inner.Follows.{IsAt, Follows, Takes, state_behind}
+use Rattle.flat_replay.specs.inner.Follows.{IsAt, FollowsFront, Takes, state_behind}
 use Rattle.flat_replay.proofs.Hands.{Makes, Says, event_says, called_makes}
 
 -- what stands behind a front
@@ -47,7 +47,7 @@ module _ {S K C : Type 0} (machine : K → Machine S C) (SharedOf : K → S → 
   abbrev log : List Entry
   log = x.log.entries
 
-  abbrev s : State S C
+  abbrev s : RunState S C
   s = at.reaches.replays.state
 
   abbrev X : Whole S K C
@@ -72,14 +72,14 @@ module _ {S K C : Type 0} (machine : K → Machine S C) (SharedOf : K → S → 
   known : nat_lt e.worker first.settings.workers ≡ true → e.worker < first.settings.workers
   known h = grind (arith, nat_tests)
 
-  abbrev Told : (s' : State S C) → IsFirst m first.settings s e s' → Type 0
+  abbrev Told : (s' : RunState S C) → IsFirst m first.settings s e s' → Type 0
   Told s' first' = Says machine first (SharedOf first.code) (ContextOf first.code) f log s stands holds e.worker (known first'.known) first'.v (called machine X (hands_of s.places) e)
 
-  says : (s' : State S C) (g : IsFirst m first.settings s e s') → Told s' g
+  says : (s' : RunState S C) (g : IsFirst m first.settings s e s') → Told s' g
   says s' g = event_says machine first (SharedOf first.code) (ContextOf first.code) f log s stands holds e.worker (known g.known) (before g.live) e.kind e.thread g.v g.event
 
   -- a step is the first of an event
-  by_first : (s' : State S C) {R : Type 0} → step m first.settings s e ≡ Some s' → (IsFirst m first.settings s e s' → R) → R
+  by_first : (s' : RunState S C) {R : Type 0} → step m first.settings s e ≡ Some s' → (IsFirst m first.settings s e s' → R) → R
   by_first s' {R} st go = step_cases m first.settings s e s' {R = R} (λ n. absurd (let z : [] ≡ n.d ∷ n.ds = sym at.reaches.replays.leads.settled ∙ n.due in cc z)) go st
 
   -- the next entry's state
@@ -90,17 +90,17 @@ module _ {S K C : Type 0} (machine : K → Machine S C) (SharedOf : K → S → 
   pub none_called : called machine x hands e ≡ None → state_behind machine SharedOf first (log ++ e ∷ []) ≡ None
   none_called none = behind_one ∙ ap (option_and_then (run m first.settings [])) (by (step m first.settings s e) refl)
     where
-      by : (o : Option (State S C)) → step m first.settings s e ≡ o → step m first.settings s e ≡ None
+      by : (o : Option (RunState S C)) → step m first.settings s e ≡ o → step m first.settings s e ≡ None
       by None q = q
       by (Some s1) q = by_first s1 q (λ g. absurd (let t = says s1 g in let mine : Whole S K C × List (Option (Hand C)) = (after machine X e.worker t.call, t.hands) in let z : None ≡ Some mine = sym none ∙ (shown ∙ t.is) in cc z))
 
   -- the world after a call replays
-  reaches_on : e.worker < first.settings.workers → (c : Call C) → MayCall machine first log e.worker c → Reaches machine SharedOf first (log ++ entries_of machine X e.worker c) (after machine X e.worker c)
-  reaches_on few c may = replays_on machine SharedOf ContextOf flat first log X e.worker c (subst (Reaches machine SharedOf first log) at.reaches.replays.is at.reaches) (few, may)
+  reaches_on : e.worker < first.settings.workers → (c : Call C) → MayCall machine first log e.worker c → LeadsFromOpening machine SharedOf first (log ++ entries_of machine X e.worker c) (after machine X e.worker c)
+  reaches_on few c may = replays_on machine SharedOf ContextOf flat first log X e.worker c (subst (LeadsFromOpening machine SharedOf first log) at.reaches.replays.is at.reaches) (few, may)
 
   module _ (x' : Whole S K C) (hands' : List (Option (Hand C))) (is : called machine x hands e ≡ Some (x', hands')) where
     -- the first entry of an event, as the call wrote it
-    module _ (s1 : State S C) (g : IsFirst m first.settings s e s1) where
+    module _ (s1 : RunState S C) (g : IsFirst m first.settings s e s1) where
       t : Told s1 g
       t = says s1 g
 
@@ -119,7 +119,7 @@ module _ {S K C : Type 0} (machine : K → Machine S C) (SharedOf : K → S → 
       entries : g.v.entries ≡ e ∷ g.ds
       entries = g.entries ∙ ap (λ (z : Entry). z ∷ g.ds) (sym (entry_is e g.d g.same))
 
-      r : Reaches machine SharedOf first (log ++ entries_of machine X e.worker t.call) (after machine X e.worker t.call)
+      r : LeadsFromOpening machine SharedOf first (log ++ entries_of machine X e.worker t.call) (after machine X e.worker t.call)
       r = reaches_on (known g.known) t.call t.may
 
       wrote : log ++ entries_of machine X e.worker t.call ≡ log ++ e ∷ g.ds
@@ -131,7 +131,7 @@ module _ {S K C : Type 0} (machine : K → Machine S C) (SharedOf : K → S → 
       pub is_next : slice_get x'.log.entries (length log) ≡ Some e
       is_next = ap (λ (es : List Entry). slice_get es (length log)) own ∙ behind log (e ∷ g.ds)
 
-      abbrev z : State S C
+      abbrev z : RunState S C
       z = steps.whole_of m first.settings g.v
 
       leads : Leads machine first (log ++ e ∷ g.ds) z
@@ -147,7 +147,7 @@ module _ {S K C : Type 0} (machine : K → Machine S C) (SharedOf : K → S → 
       shows : x' ≡ whole_of machine first x'.log.entries z
       shows = (sym x_is ∙ r.replays.is) ∙ (λ i. whole_of machine first ((wrote ∙ sym own) i) (z_is i))
 
-      pub follows : step m first.settings s e ≡ Some s1 → Follows machine SharedOf first (log ++ e ∷ []) x' hands'
+      pub follows : step m first.settings s e ≡ Some s1 → FollowsFront machine SharedOf first (log ++ e ∷ []) x' hands'
       follows st = record {
         at = record {
           reaches = record { opened = at.reaches.opened; replays = record { state = z; leads = subst (λ (es : List Entry). Leads machine first es z) (sym own) leads; is = shows } };
@@ -155,14 +155,14 @@ module _ {S K C : Type 0} (machine : K → Machine S C) (SharedOf : K → S → 
         };
         rest = g.ds;
         own = own ∙ sym (append_assoc log (e ∷ []) g.ds);
-        runs = behind_one ∙ (ap (option_and_then (run m first.settings [])) st ∙ ap (λ (y : State S C). Some y) (g.is ∙ first_is));
+        runs = behind_one ∙ (ap (option_and_then (run m first.settings [])) st ∙ ap (λ (y : RunState S C). Some y) (g.is ∙ first_is));
       }
         where
           first_is : first_of m first.settings s e g.v g.ds ≡ record z { due = g.ds }
           first_is = refl
 
     -- an entry that the call wrote is a step
-    stepped : slice_get x'.log.entries (length log) ≡ Some e → {R : Type 0} → ((s1 : State S C) → step m first.settings s e ≡ Some s1 → R) → R
+    stepped : slice_get x'.log.entries (length log) ≡ Some e → {R : Type 0} → ((s1 : RunState S C) → step m first.settings s e ≡ Some s1 → R) → R
     stepped next {R} go = by (nat_lt e.worker first.settings.workers) refl
       where
         on : e.worker < first.settings.workers → R
@@ -184,6 +184,6 @@ module _ {S K C : Type 0} (machine : K → Machine S C) (SharedOf : K → S → 
     some_called true p q = stepped (p refl) (λ s1 st. by_first s1 st (λ g. follows s1 g st))
     some_called false p q = behind_one ∙ ap (option_and_then (run m first.settings [])) (by (step m first.settings s e) refl)
       where
-        by : (o : Option (State S C)) → step m first.settings s e ≡ o → step m first.settings s e ≡ None
+        by : (o : Option (RunState S C)) → step m first.settings s e ≡ o → step m first.settings s e ≡ None
         by None st = st
         by (Some s1) st = by_first s1 st (λ g. absurd (let z : false ≡ true = q (is_next s1 g) in cc z))

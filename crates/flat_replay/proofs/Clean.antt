@@ -20,7 +20,7 @@ use Rattle.struct_ir.specs.meaning.Start.{start}
 use Rattle.struct_ir.specs.meaning.Threads.{program_of}
 use Rattle.ak_trace.specs.declared.endings.End.{End}
 use Rattle.flat_meaning.specs.Accesses.{Choice}
-use Rattle.flat_meaning.specs.Events.{State, Event, act, after_all, first_state}
+use Rattle.flat_meaning.specs.Events.{MachineState, Event, act, after_all, first_state}
 use Rattle.flat_meaning.specs.Image.{Image}
 use Rattle.flat_meaning.specs.Journals.{journal_picks}
 use Rattle.flat_meaning.specs.Order.{Attempt, attempts_of, order_of, pick, picks_of, tried_by}
@@ -84,10 +84,10 @@ module _ (p : Ir) (log : List Entry) (end : Option End) (clean : NeverStops p lo
 -- ---- the last event of a journal
 
 module _ (y : Image Spot) (log : List Entry) (before : List Event) (thread : ℕ) (choice : Choice) where
-  abbrev first : State Spot
+  abbrev first : MachineState Spot
   first = first_state y
 
-  abbrev there : State Spot
+  abbrev there : MachineState Spot
   there = after_all y before first
 
   -- before an act that makes these turns

@@ -16,7 +16,7 @@ use Rattle.flat_rules.specs.Lawful.{AreHome, Clears, IsOfRun, IsOpened, Lives, S
 use Rattle.flat_rules.specs.Machine.{Machine, cleared, steps, sweep}
 use Rattle.flat_rules.specs.Replays.{step, run}
 use Rattle.flat_rules.specs.Rules.{Rules}
-use Rattle.flat_rules.specs.States.{State, out, Mood, free, asked, homes_of, is_out, place_at, start}
+use Rattle.flat_rules.specs.States.{RunState, out, Mood, free, asked, homes_of, is_out, place_at, start}
 use Rattle.flat_rules.specs.inner.Cases.{Cases, Holds, event_holds, same_number}
 use Rattle.flat_rules.specs.inner.Steps.{run_keeps, step_cases}
 use Rattle.flat_threads.specs.Belonging.{HasStopped, IsContextOf}
@@ -58,7 +58,7 @@ pends c is = by c.stage c.stop refl refl is where
 
 module _ (code : LinearCode) (s : Shared) where
   -- a state in which one thread alone has a stage
-  abbrev pub alone : (number : ℕ) → Stage Spot → events.State Spot
+  abbrev pub alone : (number : ℕ) → Stage Spot → events.MachineState Spot
   alone number stage = record { memory = s.memory; own = set (replicate (length s.memory.threads) None) number (Some stage); end = None }
 
   none_yet : length (replicate {A = Option (Stage Spot)} (length s.memory.threads) None) ≡ length s.memory.threads
@@ -77,7 +77,7 @@ module _ (code : LinearCode) (s : Shared) where
   effect_agrees : IsConsistent s.memory.storage → (number : ℕ) (stage : Stage Spot) (stop : Stop) → number < length s.memory.threads → HasStopped (own_image code) (Some stage) stop → IsConsistent (effect_if (image_of code s) number s.memory (Some stage) (Some stop)).memory.storage
   effect_agrees agree number stage stop below stopped =
       let e = step_event number stage stop below stopped in
-      subst (λ (st : events.State Spot). IsConsistent st.memory.storage) e.after
+      subst (λ (st : events.MachineState Spot). IsConsistent st.memory.storage) e.after
       (after_all_agrees (image_of code s) (events_of (image_of code s) number s.memory stage stop) (alone number stage) agree e.allowed)
 
   -- what act leaves
@@ -93,14 +93,14 @@ module _ (code : LinearCode) (s : Shared) where
 
   pub clear_agrees : (home : List (Option Context)) → IsTheEvacuation code s home → IsConsistent s.memory.storage → IsConsistent (cleared_by code s home).shared.memory.storage
   clear_agrees home v agree =
-      subst (λ (st : events.State Spot). IsConsistent st.memory.storage) (sym v.after)
+      subst (λ (st : events.MachineState Spot). IsConsistent st.memory.storage) (sym v.after)
       (after_all_agrees (image_of code s) (evacuation_of (image_of code s) (at_home s home) ∷ []) (at_home s home) agree v.allowed)
 
   -- ---- a barrier
 
   pub sweep_agrees : (home : List (Option Context)) → IsTheBarrier code s home → IsConsistent s.memory.storage → IsConsistent (swept_by code s home).shared.memory.storage
   sweep_agrees home b agree =
-      subst (λ (st : events.State Spot). IsConsistent st.memory.storage) (sym b.after)
+      subst (λ (st : events.MachineState Spot). IsConsistent st.memory.storage) (sym b.after)
       (after_all_agrees (image_of code s) (barrier_of (image_of code s) (at_home s home) ∷ []) (at_home s home) agree b.allowed)
 
 -- ---- all entries
@@ -109,13 +109,13 @@ module _ (code : LinearCode) (rules : Rules) where
   abbrev m : Machine Shared Context
   m = machine_of code
 
-  abbrev Held : State Shared Context → Type 0
+  abbrev Held : RunState Shared Context → Type 0
   Held = Invariant m (IsSharedOf code) (IsContextOf code) rules
 
-  abbrev Agrees : State Shared Context → Type 0
+  abbrev Agrees : RunState Shared Context → Type 0
   Agrees x = IsConsistent x.shared.memory.storage
 
-  module _ (x : State Shared Context) (held : Held x) (going : x.ending ≡ None) where
+  module _ (x : RunState Shared Context) (held : Held x) (going : x.ending ≡ None) where
     sits : Sit m (IsContextOf code) x.shared None x.places
     sits = subst (λ (e : Option End). Sit m (IsContextOf code) x.shared e x.places) going held.each
 
@@ -185,11 +185,11 @@ module _ (code : LinearCode) (rules : Rules) where
     }
 
   -- both
-  pub record Good (x : State Shared Context) : Type 0 where
+  pub record Good (x : RunState Shared Context) : Type 0 where
     pub held : Held x
     pub agrees : Agrees x
 
-  pub good_keeps : (log : List Entry) (x : State Shared Context) (e : Entry) (y : State Shared Context) → Good x → step m rules x e ≡ Some y → Good y
+  pub good_keeps : (log : List Entry) (x : RunState Shared Context) (e : Entry) (y : RunState Shared Context) → Good x → step m rules x e ≡ Some y → Good y
   good_keeps log x e y good st = record {
     held = invariant_keeps m (IsSharedOf code) (IsContextOf code) rules (machine_is_flat code) log x e y good.held st;
     agrees = step_cases m rules x e y {R = Agrees y}
@@ -198,6 +198,6 @@ module _ (code : LinearCode) (rules : Rules) where
         st;
   }
 
-  pub all_good : (first : Shared) → IsOpened m (IsSharedOf code) first → IsConsistent first.memory.storage → (log : List Entry) (x : State Shared Context) → run m rules log (start m rules first) ≡ Some x → Good x
+  pub all_good : (first : Shared) → IsOpened m (IsSharedOf code) first → IsConsistent first.memory.storage → (log : List Entry) (x : RunState Shared Context) → run m rules log (start m rules first) ≡ Some x → Good x
   all_good first opened agree log x ran =
       run_keeps m rules (λ _ z. Good z) good_keeps [] log (start m rules first) x (record { held = starts m (IsSharedOf code) (IsContextOf code) rules (machine_is_flat code) first opened; agrees = agree }) ran

@@ -18,7 +18,7 @@ use Rattle.struct_ir.specs.Valid.{counts_of}
 use Rattle.ak_trace.specs.declared.endings.TrapKind.{TrapKind}
 use Rattle.ak_trace.specs.declared.endings.TrapKind.TheVariants as kinds
 use Rattle.flat_meaning.specs.Accesses.{Choice, plain, got, null, wait, Done, went, waits, unfit, over, trap, within, allocated, zeroed, renewed, reallocated, guarded, with_copy, prints, output_room}
-use Rattle.flat_meaning.specs.Actions.{acted, becomes, is_equal, is_free, joined_at, joined_if, joined_with, may_start, number_at, printed_parts}
+use Rattle.flat_meaning.specs.Actions.{acted_on_memory, word_after_change, is_equal, is_free, joined_at, joined_if, joined_with, may_start, number_at, printed_parts}
 use Rattle.flat_meaning.specs.Image.{Layout}
 use Rattle.flat_meaning.specs.Memory.{Made, Memory, beginning, left_by, served, with_storage, with_thread, words_leaving, written}
 use Rattle.flat_meaning.specs.Printing.{Read, read_parts, reads, outside, too_long}
@@ -174,20 +174,20 @@ module _ (m : Memory) where
     by false e = guarded_sound c word (renewed c word size m) (dead e) (renewed_sound c word size goes)
 
   module _ (y : Layout) (n : ℕ) where
-    load_sound : (how : Access) (ps : List Target) (ws : List ℕ) → length ps ≡ 1 → length ws ≡ 0 → Sound plain m (acted y n plain (load how) ps ws m)
+    load_sound : (how : Access) (ps : List Target) (ws : List ℕ) → length ps ≡ 1 → length ws ≡ 0 → Sound plain m (acted_on_memory y n plain (load how) ps ws m)
     load_sound how [] ws e f = absurd (omega (arith, e))
     load_sound how (a ∷ []) [] e f = reads_sound _ _ _
     load_sound how (a ∷ []) (w ∷ ws) e f = absurd (omega (arith, f))
     load_sound how (a ∷ b ∷ ps) ws e f = absurd (omega (arith, e))
 
-    store_sound : (how : Access) (ps : List Target) (ws : List ℕ) → length ps ≡ 1 → length ws ≡ 1 → Sound plain m (acted y n plain (store how) ps ws m)
+    store_sound : (how : Access) (ps : List Target) (ws : List ℕ) → length ps ≡ 1 → length ws ≡ 1 → Sound plain m (acted_on_memory y n plain (store how) ps ws m)
     store_sound how [] ws e f = absurd (omega (arith, e))
     store_sound how (a ∷ []) [] e f = absurd (omega (arith, f))
     store_sound how (a ∷ []) (w ∷ []) e f = writes_sound kinds.Store (first_outside m.storage.bytes a.address (size_of how)) None a.address (low_bytes (size_of how) w)
     store_sound how (a ∷ []) (w ∷ v ∷ ws) e f = absurd (omega (arith, f))
     store_sound how (a ∷ b ∷ ps) ws e f = absurd (omega (arith, e))
 
-    copy_sound : (align : ℕ) (same : Bool) (ps : List Target) (ws : List ℕ) → length ps ≡ 2 → length ws ≡ 1 → Sound plain m (acted y n plain (copy_bytes align same) ps ws m)
+    copy_sound : (align : ℕ) (same : Bool) (ps : List Target) (ws : List ℕ) → length ps ≡ 2 → length ws ≡ 1 → Sound plain m (acted_on_memory y n plain (copy_bytes align same) ps ws m)
     copy_sound align same [] ws e f = absurd (omega (arith, e))
     copy_sound align same (a ∷ []) ws e f = absurd (omega (arith, e))
     copy_sound align same (a ∷ b ∷ []) [] e f = absurd (omega (arith, f))
@@ -195,22 +195,22 @@ module _ (m : Memory) where
     copy_sound align same (a ∷ b ∷ []) (w ∷ v ∷ ws) e f = absurd (omega (arith, f))
     copy_sound align same (a ∷ b ∷ c ∷ ps) ws e f = absurd (omega (arith, e))
 
-    free_sound : (ps : List Target) (ws : List ℕ) → length ps ≡ 0 → length ws ≡ 1 → Sound plain m (acted y n plain free ps ws m)
+    free_sound : (ps : List Target) (ws : List ℕ) → length ps ≡ 0 → length ws ≡ 1 → Sound plain m (acted_on_memory y n plain free ps ws m)
     free_sound (a ∷ ps) ws e f = absurd (omega (arith, e))
     free_sound [] [] e f = absurd (omega (arith, f))
     free_sound [] (w ∷ []) e f = either (w == 0) _ _ (record { count = refl; size = refl; most = refl }) (either (is_live_start m.storage w) _ _ (record { count = refl; size = refl; most = refl }) never)
     free_sound [] (w ∷ v ∷ ws) e f = absurd (omega (arith, f))
 
-    change_sound : (how : Change) (t : IntType) (ps : List Target) (ws : List ℕ) → length ps ≡ 1 → length ws ≡ 1 → Sound plain m (acted y n plain (change how t) ps ws m)
+    change_sound : (how : Change) (t : IntType) (ps : List Target) (ws : List ℕ) → length ps ≡ 1 → length ws ≡ 1 → Sound plain m (acted_on_memory y n plain (change how t) ps ws m)
     change_sound how t [] ws e f = absurd (omega (arith, e))
     change_sound how t (a ∷ []) [] e f = absurd (omega (arith, f))
     change_sound how t (a ∷ []) (w ∷ []) e f =
         let old = number_at t a.address m in
-        writes_sound kinds.Store (first_outside m.storage.bytes a.address (t.bits / 8)) (Some old) a.address (low_bytes (t.bits / 8) (becomes how t old w))
+        writes_sound kinds.Store (first_outside m.storage.bytes a.address (t.bits / 8)) (Some old) a.address (low_bytes (t.bits / 8) (word_after_change how t old w))
     change_sound how t (a ∷ []) (w ∷ v ∷ ws) e f = absurd (omega (arith, f))
     change_sound how t (a ∷ b ∷ ps) ws e f = absurd (omega (arith, e))
 
-    compare_sound : (t : IntType) (ps : List Target) (ws : List ℕ) → length ps ≡ 2 → length ws ≡ 1 → Sound plain m (acted y n plain (compare t) ps ws m)
+    compare_sound : (t : IntType) (ps : List Target) (ws : List ℕ) → length ps ≡ 2 → length ws ≡ 1 → Sound plain m (acted_on_memory y n plain (compare t) ps ws m)
     compare_sound t [] ws e f = absurd (omega (arith, e))
     compare_sound t (a ∷ []) ws e f = absurd (omega (arith, e))
     compare_sound t (a ∷ b ∷ []) [] e f = absurd (omega (arith, f))
@@ -224,7 +224,7 @@ module _ (m : Memory) where
     compare_sound t (a ∷ b ∷ []) (w ∷ v ∷ ws) e f = absurd (omega (arith, f))
     compare_sound t (a ∷ b ∷ c ∷ ps) ws e f = absurd (omega (arith, e))
 
-    lock_sound : (ps : List Target) (ws : List ℕ) → length ps ≡ 1 → length ws ≡ 0 → Sound plain m (acted y n plain lock ps ws m)
+    lock_sound : (ps : List Target) (ws : List ℕ) → length ps ≡ 1 → length ws ≡ 0 → Sound plain m (acted_on_memory y n plain lock ps ws m)
     lock_sound [] ws e f = absurd (omega (arith, e))
     lock_sound (a ∷ []) [] e f =
         let d = went None (written m a.address (low_bytes 8 (n + 1))) in
@@ -232,26 +232,26 @@ module _ (m : Memory) where
     lock_sound (a ∷ []) (w ∷ ws) e f = absurd (omega (arith, f))
     lock_sound (a ∷ b ∷ ps) ws e f = absurd (omega (arith, e))
 
-    unlock_sound : (ps : List Target) (ws : List ℕ) → length ps ≡ 1 → length ws ≡ 0 → Sound plain m (acted y n plain unlock ps ws m)
+    unlock_sound : (ps : List Target) (ws : List ℕ) → length ps ≡ 1 → length ws ≡ 0 → Sound plain m (acted_on_memory y n plain unlock ps ws m)
     unlock_sound [] ws e f = absurd (omega (arith, e))
     unlock_sound (a ∷ []) [] e f = writes_sound kinds.Lock (first_outside m.storage.bytes a.address 8) None a.address (low_bytes 8 0)
     unlock_sound (a ∷ []) (w ∷ ws) e f = absurd (omega (arith, f))
     unlock_sound (a ∷ b ∷ ps) ws e f = absurd (omega (arith, e))
 
-    destroy_sound : (ps : List Target) (ws : List ℕ) → length ps ≡ 1 → length ws ≡ 0 → Sound plain m (acted y n plain destroy ps ws m)
+    destroy_sound : (ps : List Target) (ws : List ℕ) → length ps ≡ 1 → length ws ≡ 0 → Sound plain m (acted_on_memory y n plain destroy ps ws m)
     destroy_sound [] ws e f = absurd (omega (arith, e))
     destroy_sound (a ∷ []) [] e f = record { count = refl; size = refl; most = refl }
     destroy_sound (a ∷ []) (w ∷ ws) e f = absurd (omega (arith, f))
     destroy_sound (a ∷ b ∷ ps) ws e f = absurd (omega (arith, e))
 
-    start_sound : (function : ℕ) (ps : List Target) (ws : List ℕ) → length ps ≡ 1 → length ws ≡ 1 → Sound plain m (acted y n plain (start function) ps ws m)
+    start_sound : (function : ℕ) (ps : List Target) (ws : List ℕ) → length ps ≡ 1 → length ws ≡ 1 → Sound plain m (acted_on_memory y n plain (start function) ps ws m)
     start_sound function [] ws e f = absurd (omega (arith, e))
     start_sound function (a ∷ []) [] e f = absurd (omega (arith, f))
     start_sound function (a ∷ []) (w ∷ []) e f = either (may_start y.limits.threads m) _ _ (starts_sound kinds.Start (first_outside m.storage.bytes a.address 8) (Some 0) a.address (low_bytes 8 (length m.threads)) (beginning function w)) (record { count = refl; size = refl; most = refl })
     start_sound function (a ∷ []) (w ∷ v ∷ ws) e f = absurd (omega (arith, f))
     start_sound function (a ∷ b ∷ ps) ws e f = absurd (omega (arith, e))
 
-    join_sound : (ps : List Target) (ws : List ℕ) → length ps ≡ 1 → length ws ≡ 1 → Sound plain m (acted y n plain join ps ws m)
+    join_sound : (ps : List Target) (ws : List ℕ) → length ps ≡ 1 → length ws ≡ 1 → Sound plain m (acted_on_memory y n plain join ps ws m)
     join_sound [] ws e f = absurd (omega (arith, e))
     join_sound (a ∷ []) [] e f = absurd (omega (arith, f))
     join_sound (a ∷ []) (w ∷ []) e f = joined_sound a (slice_get m.threads w)
@@ -262,20 +262,20 @@ module _ (m : Memory) where
       abbrev rule : (word size : ℕ) → Choice
       rule word size = malloc_choice m.storage word size
 
-      malloc_sound : (ps : List Target) (ts : List ℕ) → length ps ≡ 0 → length ts ≡ 1 → Sound (action_choice rule l malloc ts) m (acted y n (action_choice rule l malloc ts) malloc ps (map (word_at l) ts) m)
+      malloc_sound : (ps : List Target) (ts : List ℕ) → length ps ≡ 0 → length ts ≡ 1 → Sound (action_choice rule l malloc ts) m (acted_on_memory y n (action_choice rule l malloc ts) malloc ps (map (word_at l) ts) m)
       malloc_sound (a ∷ ps) ts e f = absurd (omega (arith, e))
       malloc_sound [] [] e f = absurd (omega (arith, f))
       malloc_sound [] (t ∷ []) e f = allocated_sound (rule 0 (word_at l t)) (word_at l t) (malloc_goes m.storage 0 (word_at l t))
       malloc_sound [] (t ∷ u ∷ ts) e f = absurd (omega (arith, f))
 
-      calloc_sound : (ps : List Target) (ts : List ℕ) → length ps ≡ 0 → length ts ≡ 2 → Sound (action_choice rule l calloc ts) m (acted y n (action_choice rule l calloc ts) calloc ps (map (word_at l) ts) m)
+      calloc_sound : (ps : List Target) (ts : List ℕ) → length ps ≡ 0 → length ts ≡ 2 → Sound (action_choice rule l calloc ts) m (acted_on_memory y n (action_choice rule l calloc ts) calloc ps (map (word_at l) ts) m)
       calloc_sound (a ∷ ps) ts e f = absurd (omega (arith, e))
       calloc_sound [] [] e f = absurd (omega (arith, f))
       calloc_sound [] (t ∷ []) e f = absurd (omega (arith, f))
       calloc_sound [] (t ∷ u ∷ []) e f = let size = word_at l t * word_at l u in zeroed_sound (rule 0 size) size (malloc_goes m.storage 0 size)
       calloc_sound [] (t ∷ u ∷ v ∷ ts) e f = absurd (omega (arith, f))
 
-      realloc_sound : (ps : List Target) (ts : List ℕ) → length ps ≡ 0 → length ts ≡ 2 → Sound (action_choice rule l realloc ts) m (acted y n (action_choice rule l realloc ts) realloc ps (map (word_at l) ts) m)
+      realloc_sound : (ps : List Target) (ts : List ℕ) → length ps ≡ 0 → length ts ≡ 2 → Sound (action_choice rule l realloc ts) m (acted_on_memory y n (action_choice rule l realloc ts) realloc ps (map (word_at l) ts) m)
       realloc_sound (a ∷ ps) ts e f = absurd (omega (arith, e))
       realloc_sound [] [] e f = absurd (omega (arith, f))
       realloc_sound [] (t ∷ []) e f = absurd (omega (arith, f))
@@ -289,7 +289,7 @@ module _ (m : Memory) where
       words ts k e = length-map ts (word_at l) ∙ e
 
       -- with what the machine chooses at a step
-      pub action_sound : (a : Action) (ps : List Target) (ts : List ℕ) → length ps ≡ (counts_of a).places → length ts ≡ (counts_of a).temps → Sound (action_choice rule l a ts) m (acted y n (action_choice rule l a ts) a ps (map (word_at l) ts) m)
+      pub action_sound : (a : Action) (ps : List Target) (ts : List ℕ) → length ps ≡ (counts_of a).places → length ts ≡ (counts_of a).temps → Sound (action_choice rule l a ts) m (acted_on_memory y n (action_choice rule l a ts) a ps (map (word_at l) ts) m)
       action_sound (load how) ps ts e f = load_sound how ps (map (word_at l) ts) e (words ts 0 f)
       action_sound (store how) ps ts e f = store_sound how ps (map (word_at l) ts) e (words ts 1 f)
       action_sound (copy_bytes align same) ps ts e f = copy_sound align same ps (map (word_at l) ts) e (words ts 1 f)

@@ -6,7 +6,7 @@ use Rattle.ak_trace.specs.declared.entry.Entry.{Entry}
 use Rattle.ak_trace.specs.declared.endings.End.{End}
 use Rattle.flat_rules.specs.Rules.{Rules}
 use Rattle.flat_rules.specs.Machine.{Machine}
-use Rattle.flat_rules.specs.States.{State, end_of}
+use Rattle.flat_rules.specs.States.{RunState, end_of}
 use Rattle.flat_rules.specs.Lawful.{IsFlat, IsOfRun}
 use Rattle.flat_rules.specs.Replays.{replay}
 use Rattle.world_rules.specs.Whole.{Whole}
@@ -18,7 +18,7 @@ use Rattle.flat_replay.specs.inner.Follows.{Comes}
 module _ {S K C : Type 0} (machine : K → Machine S C) (SharedOf : K → S → Type 0) (ContextOf : K → C → Type 0) (flat : (code : K) → IsFlat (machine code) (SharedOf code) (ContextOf code))
     (first x : Whole S K C) (log : List Entry) (k : K) (rules : Rules) (shared : S) (code : first.code ≡ k) (told : first.settings ≡ rules) (opened : first.shared ≡ shared) where
   -- what is shared in a state, and the end
-  abbrev pub final : State S C → S × Option End
+  abbrev pub final : RunState S C → S × Option End
   final s = (s.shared, end_of (machine k) rules s)
 
   -- a journal of none

@@ -17,13 +17,13 @@ use Rattle.flat_meaning.specs.Accesses.{Choice, Done, Fault, is_plain, output_li
 use Rattle.flat_meaning.specs.Actions as actions
 use Rattle.flat_meaning.specs.Actions.{may_start}
 use Rattle.flat_meaning.specs.Allowed.{MayAct, MayDo, MayStep, MayStepAt}
-use Rattle.flat_meaning.specs.Effects.{Effect, act_before, act_effect, acted, end_of, ends_run, exit_of, no_effect, own_list_of}
+use Rattle.flat_meaning.specs.Effects.{Effect, act_before, act_effect, effect_of_outcome, end_of, ends_run, exit_of, no_effect, own_list_of}
 use Rattle.flat_meaning.specs.Image.{Image}
 use Rattle.flat_meaning.specs.Machine.{served_by, words_machine, words_world}
 use Rattle.flat_meaning.specs.Memory.{Memory}
 use Rattle.flat_meaning.specs.Order.{act_picks, answer_here, pick, pick_if, picks_of_act, tried_action, tried_answer, tried_at, tried_before, tried_if}
 use Rattle.flat_meaning.specs.Ready.{is_allocation, takes_room}
-use Rattle.flat_meaning.specs.Stages.{Stage, starts, going, waiting, landed, Before, safe, looks, steps, calls, turn_over, nothing, before, can_go, room_for}
+use Rattle.flat_meaning.specs.Stages.{Stage, starts, going, waiting, landed, Before, safe, looks, steps, calls, turn_over, nothing, before, can_advance, room_for}
 use Rattle.flat_meaning.specs.Words.{Target, Words, target_of, word_at}
 use Rattle.flat_rules.specs.inner.Cases.{same_number}
 use Rattle.flat_replay.proofs.Allocations.{waiting_ends}
@@ -83,7 +83,7 @@ module _ (x : Image Spot) (thread : ℕ) (choice : Choice) (m : Memory) where
   zeroed_limit wait size e = absurd cc
 
   -- so the turn is told Plain
-  limit_action : (a : Action) (ts : List Target) (ws : List ℕ) → actions.acted x.layout thread choice a ts ws m ≡ over output_limit → tried_action a ≡ answers.Plain
+  limit_action : (a : Action) (ts : List Target) (ws : List ℕ) → actions.acted_on_memory x.layout thread choice a ts ws m ≡ over output_limit → tried_action a ≡ answers.Plain
   limit_action (load how) ts ws e = refl
   limit_action (store how) ts ws e = refl
   limit_action (copy_bytes align same) ts ws e = refl
@@ -170,12 +170,12 @@ module _ (x : Image Spot) (thread : ℕ) (choice : Choice) (m : Memory) where
     plain_of (returns temp) e may = may
 
     -- so what ended the run wasn't left waiting
-    not_wait : (stage : Stage Spot) (h : Here) (end : End) → MayAct m.storage t.top.own choice h → (acted thread stage t (own_list_of h) m (outcome_at h)).end ≡ Some end → choice ≡ wait → ⊥
+    not_wait : (stage : Stage Spot) (h : Here) (end : End) → MayAct m.storage t.top.own choice h → (effect_of_outcome thread stage t (own_list_of h) m (outcome_at h)).end ≡ Some end → choice ≡ wait → ⊥
     not_wait stage h end may stops waiting_ = by (is_allocation h) refl where
       by : (b : Bool) → is_allocation h ≡ b → ⊥
       by true is =
           let still = waiting_ends x thread m stage t (own_list_of h) h is (subst (λ (c : Choice). MayAct m.storage t.top.own c h) waiting_ may) in
-          let bad : None ≡ Some end = sym still ∙ ap (λ (c : Choice). (acted thread stage t (own_list_of h) m (stop_at x.flow (words_machine x.layout thread) (words_world x.layout thread) x.start c t m h)).end) (sym waiting_) ∙ stops in
+          let bad : None ≡ Some end = sym still ∙ ap (λ (c : Choice). (effect_of_outcome thread stage t (own_list_of h) m (stop_at x.flow (words_machine x.layout thread) (words_world x.layout thread) x.start c t m h)).end) (sym waiting_) ∙ stops in
           cc
       by false is = let bad : plain ≡ wait = sym (plain_of h is may) ∙ waiting_ in cc
 
@@ -196,17 +196,17 @@ module _ (x : Image Spot) (thread : ℕ) (choice : Choice) (m : Memory) where
     tried_choice wait h f goes_on = absurd (goes_on refl)
 
     -- a step
-    step_ends : (stage : Stage Spot) (t : Thread Spot Words) (h : Here) → MayAct m.storage t.top.own choice h → (o : Outcome Spot Words Fault Memory) → outcome_at t h ≡ o → (acted thread stage t (own_list_of h) m o).end ≡ Some end
-        → ActEnds (pick_if thread (answer_here x m choice h) o) (tried_if {P = Spot} thread choice h o) (acted thread stage t (own_list_of h) m o) end
+    step_ends : (stage : Stage Spot) (t : Thread Spot Words) (h : Here) → MayAct m.storage t.top.own choice h → (o : Outcome Spot Words Fault Memory) → outcome_at t h ≡ o → (effect_of_outcome thread stage t (own_list_of h) m o).end ≡ Some end
+        → ActEnds (pick_if thread (answer_here x m choice h) o) (tried_if {P = Spot} thread choice h o) (effect_of_outcome thread stage t (own_list_of h) m o) end
     step_ends stage t h may (went q m2) is e = absurd cc
     step_ends stage t h may (ended l m2) is e = by (thread == 0) refl e where
       by : (b : Bool) → (thread == 0) ≡ b → cond b (exit_of (slice_get m2.threads 0)) None ≡ Some end
-          → ActEnds (pick thread (answer_here x m choice h) ∷ []) (tried_if {P = Spot} thread choice h (ended l m2)) (acted thread stage t (own_list_of h) m (ended l m2)) end
+          → ActEnds (pick thread (answer_here x m choice h) ∷ []) (tried_if {P = Spot} thread choice h (ended l m2)) (effect_of_outcome thread stage t (own_list_of h) m (ended l m2)) end
       by true main e = by_return (answer_here x m choice h) (same_number thread 0 main) e refl
       by false main e = absurd cc
     step_ends stage t h may blocked is e = absurd cc
     step_ends stage t h may (broke f) is e =
-        let moving : choice ≡ wait → ⊥ = not_wait t stage h end may (ap (λ (o : Outcome Spot Words Fault Memory). (acted thread stage t (own_list_of h) m o).end) is ∙ e) in
+        let moving : choice ≡ wait → ⊥ = not_wait t stage h end may (ap (λ (o : Outcome Spot Words Fault Memory). (effect_of_outcome thread stage t (own_list_of h) m o).end) is ∙ e) in
         let limit : f ≡ output_limit → tried_answer h ≡ answers.Plain = λ (same : f ≡ output_limit). limit_plain t h (is ∙ ap (λ (g : Fault). broke g) same) in
         by_fault f (tried_answer h) limit (told_either h) (let same : end_of f ≡ end = cc in sym same) refl (tried_choice choice h f moving) refl
     step_ends stage t h may unfit is e = absurd cc
@@ -228,7 +228,7 @@ module _ (x : Image Spot) (thread : ℕ) (choice : Choice) (m : Memory) where
     -- of any
     pub act_ends : (stage : Stage Spot) → MayStepAt x m choice (Some stage) → (act_effect x thread choice stage m).end ≡ Some end
         → ActEnds (picks_of_act x m thread choice (Some stage)) (tried_at x m thread choice (Some stage)) (act_effect x thread choice stage m) end
-    act_ends (starts function argument) may e = by (can_go x (starts function argument)) may.0 e where
+    act_ends (starts function argument) may e = by (can_advance x (starts function argument)) may.0 e where
       by : (b : Bool) → b ≡ false → (cond b (no_effect {P = Spot} m (starts function argument)) (ends_run m (starts function argument) (ends.StackLimit thread))).end ≡ Some end
           → ActEnds [] (cond b [] (pick thread answers.Plain ∷ [])) (cond b (no_effect m (starts function argument)) (ends_run m (starts function argument) (ends.StackLimit thread))) end
       by true no_room e = absurd cc

@@ -12,11 +12,11 @@ use Rattle.struct_ir.specs.Threads.{Thread, Outcome, went, ended, blocked, broke
 use Rattle.flat_meaning.specs.Accesses.{Fault, Choice}
 use Rattle.flat_meaning.specs.Allowed.{AreAllowed, IsAllowed, MayServeAll}
 use Rattle.flat_meaning.specs.Effects.{stop_of}
-use Rattle.flat_meaning.specs.Events.{State, Serve, Event, local, look, act, barrier, after, after_all, after_serve, after_serves, moved_state, serving_state}
+use Rattle.flat_meaning.specs.Events.{MachineState, Serve, Event, local, look, act, barrier, after, after_all, after_serve, after_serves, moved_state, serving_state}
 use Rattle.flat_meaning.specs.Image.{Image}
 use Rattle.flat_meaning.specs.Memory.{Memory}
 use Rattle.flat_meaning.specs.Order.{act_picks, answer_of, local_picks, order_of, pick_if, picks_of, picks_of_act, picks_of_local, picks_of_serve, picks_of_serves}
-use Rattle.flat_meaning.specs.Stages.{Stage, starts, going, waiting, landed, Before, safe, looks, steps, calls, turn_over, nothing, before, can_go, gone}
+use Rattle.flat_meaning.specs.Stages.{Stage, starts, going, waiting, landed, Before, safe, looks, steps, calls, turn_over, nothing, before, can_advance, advanced}
 use Rattle.flat_meaning.specs.Words.{Words}
 use Rattle.flat_replay.proofs.Outputs.{Grows, after_all_grows, after_grows, after_serves_grows}
 
@@ -75,18 +75,18 @@ module _ {P : Type 0} (x : Image P) where
 
   local_few : (k : ℕ) (o : Option (Stage P)) → length (picks_of_local x k o) ≤ 1
   local_few k None = omega arith
-  local_few k (Some stage) = either_few (can_go x stage) (local_picks k (gone x k stage).turns) [] (either_few ((gone x k stage).turns == 0) [] _ (omega arith) (omega arith)) (omega arith)
+  local_few k (Some stage) = either_few (can_advance x stage) (local_picks k (advanced x k stage).turns) [] (either_few ((advanced x k stage).turns == 0) [] _ (omega arith) (omega arith)) (omega arith)
 
   -- ---- the first serves
 
   -- serves that make the first turns of others, and print the first of what these do
-  record FirstServes (vs : List Serve) (n : ℕ) (s : State P) : Type 0 where
+  record FirstServes (vs : List Serve) (n : ℕ) (s : MachineState P) : Type 0 where
     pub served : List Serve
     pub may : MayServeAll x served s
     pub picks : picks_of_serves x served s ≡ take n (picks_of_serves x vs s)
     pub grows : Grows (after_serves x served s).memory (after_serves x vs s).memory
 
-  first_serves : (vs : List Serve) (n : ℕ) (s : State P) → MayServeAll x vs s → FirstServes vs n s
+  first_serves : (vs : List Serve) (n : ℕ) (s : MachineState P) → MayServeAll x vs s → FirstServes vs n s
   first_serves [] n s may = record { served = []; may = tt; picks = sym (take_none n); grows = prefix_of_itself s.memory.output }
   first_serves (v ∷ vs) zero s may = record { served = []; may = tt; picks = refl; grows = after_serves_grows x (v ∷ vs) s }
   first_serves (v ∷ vs) (suc n) s may =
@@ -103,25 +103,25 @@ module _ {P : Type 0} (x : Image P) where
   -- ---- the first events
 
   -- events that may come, make the first turns of others, and print the first of what these do
-  pub record FirstTurns (es : List Event) (n : ℕ) (s : State P) : Type 0 where
+  pub record FirstTurns (es : List Event) (n : ℕ) (s : MachineState P) : Type 0 where
     pub events : List Event
     pub allowed : AreAllowed x events s
     pub order : order_of x events s ≡ take n (order_of x es s)
     pub grows : Grows (after_all x events s).memory (after_all x es s).memory
 
   -- of one event, fewer than all
-  record FirstOfOne (e : Event) (n : ℕ) (s : State P) : Type 0 where
+  record FirstOfOne (e : Event) (n : ℕ) (s : MachineState P) : Type 0 where
     pub events : List Event
     pub allowed : AreAllowed x events s
     pub order : order_of x events s ≡ take n (picks_of x s e)
     pub grows : Grows (after_all x events s).memory (after x s e).memory
 
   -- none, where it makes one at most
-  none_of : (e : Event) (n : ℕ) (s : State P) → length (picks_of x s e) ≤ 1 → n < length (picks_of x s e) → FirstOfOne e n s
+  none_of : (e : Event) (n : ℕ) (s : MachineState P) → length (picks_of x s e) ≤ 1 → n < length (picks_of x s e) → FirstOfOne e n s
   none_of e n s few lt = record { events = []; allowed = tt; order = sym (take_few n (picks_of x s e) few lt); grows = after_grows x s e }
 
   -- of a barrier those of its first serves
-  first_of_one : (e : Event) (n : ℕ) (s : State P) → IsAllowed x s e → n < length (picks_of x s e) → FirstOfOne e n s
+  first_of_one : (e : Event) (n : ℕ) (s : MachineState P) → IsAllowed x s e → n < length (picks_of x s e) → FirstOfOne e n s
   first_of_one (local thread) n s allowed lt = none_of (local thread) n s (local_few thread (own_at s.own thread)) lt
   first_of_one (look thread) n s allowed lt = none_of (look thread) n s (omega arith) lt
   first_of_one (act thread choice) n s allowed lt = none_of (act thread choice) n s (act_few s.memory thread choice (own_at s.own thread)) lt
@@ -135,7 +135,7 @@ module _ {P : Type 0} (x : Image P) where
       }
 
   -- an event, and then others, of whose turns these are known
-  first_of_all : (e : Event) (es : List Event) (n : ℕ) (s : State P) → IsAllowed x s e → ((k : ℕ) → FirstTurns es k (after x s e)) → FirstTurns (e ∷ es) n s
+  first_of_all : (e : Event) (es : List Event) (n : ℕ) (s : MachineState P) → IsAllowed x s e → ((k : ℕ) → FirstTurns es k (after x s e)) → FirstTurns (e ∷ es) n s
   first_of_all e es n s allowed rest = by (cases_lt n (length (picks_of x s e))) where
     by : (n < length (picks_of x s e)) ⊎ (length (picks_of x s e) ≤ n) → FirstTurns (e ∷ es) n s
     by (inl lt) =
@@ -156,6 +156,6 @@ module _ {P : Type 0} (x : Image P) where
         }
 
   -- of all events
-  pub first_turns : (es : List Event) (n : ℕ) (s : State P) → AreAllowed x es s → FirstTurns es n s
+  pub first_turns : (es : List Event) (n : ℕ) (s : MachineState P) → AreAllowed x es s → FirstTurns es n s
   first_turns [] n s allowed = record { events = []; allowed = tt; order = sym (take_none n); grows = prefix_of_itself s.memory.output }
   first_turns (e ∷ es) n s allowed = first_of_all e es n s allowed.0 (λ k. first_turns es k (after x s e) allowed.1)

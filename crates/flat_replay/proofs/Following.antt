@@ -6,15 +6,15 @@ use Rattle.std.proofs.lemmas.Bool.Decides.{nat_tests}
 use Rattle.ak_trace.specs.declared.entry.Entry.{Entry}
 use Rattle.flat_rules.specs.Rules.{Rules}
 use Rattle.flat_rules.specs.Machine.{Machine}
-use Rattle.flat_rules.specs.States.{State, start, unbegun_from}
+use Rattle.flat_rules.specs.States.{RunState, start, unbegun_from}
 use Rattle.flat_rules.specs.Lawful.{IsFlat}
 use Rattle.flat_rules.specs.Replays.{same_entry, run, settled, replay}
 use Rattle.flat_rules.specs.inner.Cases.{same_number, same_refl}
 use Rattle.flat_rules.specs.inner.Steps.{entry_is, same_entry_refl, run-append}
-use Rattle.world_rules.specs.Whole.{Whole, Leads, Reaches, whole_of}
+use Rattle.world_rules.specs.Whole.{Whole, Leads, LeadsFromOpening, whole_of}
 use Rattle.flat_replay.specs.declared.driver.Hand.{Hand}
 use Rattle.flat_replay.specs.inner.Hands.{hands_of, called}
-use Rattle.flat_replay.specs.inner.Follows.{Follows, Takes, Comes, state_behind}
+use Rattle.flat_replay.specs.inner.Follows.{FollowsFront, Takes, Comes, state_behind}
 use Rattle.flat_replay.proofs.Calling.{behind, none_called, some_called}
 
 -- a journal up to an entry, and that entry
@@ -47,18 +47,18 @@ module _ {S K C : Type 0} (machine : K → Machine S C) (SharedOf : K → S → 
   abbrev m : Machine S C
   m = machine first.code
 
-  abbrev Behind : List Entry → Option (State S C)
+  abbrev Behind : List Entry → Option (RunState S C)
   Behind = state_behind machine SharedOf first
 
   -- all of the world's entries were followed
-  at_front : (front : List Entry) (x : Whole S K C) (hands : List (Option (Hand C))) → Follows machine SharedOf first front x hands → length x.log.entries ≡ length front → x.log.entries ≡ front
+  at_front : (front : List Entry) (x : Whole S K C) (hands : List (Option (Hand C))) → FollowsFront machine SharedOf first front x hands → length x.log.entries ≡ length front → x.log.entries ≡ front
   at_front front x hands f same = f.own ∙ (ap (λ (l : List Entry). front ++ l) (none_more front f.rest (ap length (sym f.own) ∙ same)) ∙ append-nil front)
 
-  abbrev due_in : (front : List Entry) (x : Whole S K C) (hands : List (Option (Hand C))) → Follows machine SharedOf first front x hands → List Entry → State S C
+  abbrev due_in : (front : List Entry) (x : Whole S K C) (hands : List (Option (Hand C))) → FollowsFront machine SharedOf first front x hands → List Entry → RunState S C
   due_in front x hands f ds = record f.at.reaches.replays.state { due = ds }
 
   -- an entry that is still to come
-  pub takes_due : (front : List Entry) (e : Entry) (x : Whole S K C) (hands : List (Option (Hand C))) → Follows machine SharedOf first front x hands → (length x.log.entries ≡ length front → ⊥)
+  pub takes_due : (front : List Entry) (e : Entry) (x : Whole S K C) (hands : List (Option (Hand C))) → FollowsFront machine SharedOf first front x hands → (length x.log.entries ≡ length front → ⊥)
       → (b : Bool) → (b ≡ true → slice_get x.log.entries (length front) ≡ Some e) → (slice_get x.log.entries (length front) ≡ Some e → b ≡ true) → Takes machine SharedOf first front e x hands b
   takes_due front e x hands f more b p q = by f.rest f.own f.runs b p q
     where
@@ -85,11 +85,11 @@ module _ {S K C : Type 0} (machine : K → Machine S C) (SharedOf : K → S → 
 
   module _ (ContextOf : K → C → Type 0) (flat : (code : K) → IsFlat (machine code) (SharedOf code) (ContextOf code)) where
     -- where all of the world's entries were followed, and nothing can be called
-    pub takes_none : (front : List Entry) (e : Entry) (x : Whole S K C) (hands : List (Option (Hand C))) → Follows machine SharedOf first front x hands → length x.log.entries ≡ length front → called machine x hands e ≡ None → Behind (front ++ e ∷ []) ≡ None
+    pub takes_none : (front : List Entry) (e : Entry) (x : Whole S K C) (hands : List (Option (Hand C))) → FollowsFront machine SharedOf first front x hands → length x.log.entries ≡ length front → called machine x hands e ≡ None → Behind (front ++ e ∷ []) ≡ None
     takes_none front e x hands f same none = subst (λ (l : List Entry). Behind (l ++ e ∷ []) ≡ None) (at_front front x hands f same) (none_called machine SharedOf ContextOf flat first x hands f.at e none)
 
     -- or something is
-    pub takes_called : (front : List Entry) (e : Entry) (x x' : Whole S K C) (hands hands' : List (Option (Hand C))) → Follows machine SharedOf first front x hands → length x.log.entries ≡ length front → called machine x hands e ≡ Some (x', hands')
+    pub takes_called : (front : List Entry) (e : Entry) (x x' : Whole S K C) (hands hands' : List (Option (Hand C))) → FollowsFront machine SharedOf first front x hands → length x.log.entries ≡ length front → called machine x hands e ≡ Some (x', hands')
         → (b : Bool) → (b ≡ true → slice_get x'.log.entries (length front) ≡ Some e) → (slice_get x'.log.entries (length front) ≡ Some e → b ≡ true) → Takes machine SharedOf first front e x' hands' b
     takes_called front e x x' hands hands' f same is b p q =
         subst (λ (l : List Entry). Takes machine SharedOf first l e x' hands' b) (at_front front x hands f same)
@@ -98,7 +98,7 @@ module _ {S K C : Type 0} (machine : K → Machine S C) (SharedOf : K → S → 
         (λ h. q (subst (λ (n : ℕ). slice_get x'.log.entries n ≡ Some e) same h)))
 
     -- where so many entries were followed, by whether the world has more of its own
-    module _ (i : ℕ) (front : List Entry) (e : Entry) (x : Whole S K C) (hands : List (Option (Hand C))) (f : Follows machine SharedOf first front x hands) (at : i ≡ length front) where
+    module _ (i : ℕ) (front : List Entry) (e : Entry) (x : Whole S K C) (hands : List (Option (Hand C))) (f : FollowsFront machine SharedOf first front x hands) (at : i ≡ length front) where
       all_followed : length x.log.entries ≤ i → length x.log.entries ≡ length front
       all_followed few = let a : length x.log.entries ≡ length (front ++ f.rest) = ap length f.own in let b = length-append front f.rest in omega arith
 
@@ -121,9 +121,9 @@ module _ {S K C : Type 0} (machine : K → Machine S C) (SharedOf : K → S → 
       ∙ (ap (option_and_then (settled m first.settings)) (run-append m first.settings front rest (start m first.settings first.shared) ∙ ap (option_and_then (run m first.settings rest)) none))
 
   -- at its end, by whether the world has more entries
-  pub comes : (log : List Entry) (x : Whole S K C) (hands : List (Option (Hand C))) → Follows machine SharedOf first log x hands → (b : Bool) → (b ≡ true → length x.log.entries ≡ length log) → (length x.log.entries ≡ length log → b ≡ true) → Comes machine SharedOf first log x b
+  pub comes : (log : List Entry) (x : Whole S K C) (hands : List (Option (Hand C))) → FollowsFront machine SharedOf first log x hands → (b : Bool) → (b ≡ true → length x.log.entries ≡ length log) → (length x.log.entries ≡ length log → b ≡ true) → Comes machine SharedOf first log x b
   comes log x hands f true p q =
-      let s : State S C = f.at.reaches.replays.state in let is : x.log.entries ≡ log = at_front log x hands f (p refl) in
+      let s : RunState S C = f.at.reaches.replays.state in let is : x.log.entries ≡ log = at_front log x hands f (p refl) in
       let due : f.rest ≡ [] = none_more log f.rest (ap length (sym f.own) ∙ p refl) in (
         record { opened = f.at.reaches.opened; replays = record { state = s; leads = subst (λ (l : List Entry). Leads machine first l s) is f.at.reaches.replays.leads; is = f.at.reaches.replays.is ∙ ap (λ (l : List Entry). whole_of machine first l s) is } },
         ap (option_and_then (settled m first.settings)) (ap Behind (sym is) ∙ f.at.reaches.replays.leads.runs) ∙ ap (λ (ds : List Entry). cond (length ds == 0) (Some s) None) f.at.reaches.replays.leads.settled,
@@ -136,8 +136,8 @@ module _ {S K C : Type 0} (machine : K → Machine S C) (SharedOf : K → S → 
           ap (λ (c : Bool). cond c (Some (record f.at.reaches.replays.state { due = f.rest })) None) z
 
   -- by numbers that are those of the entries
-  pub comes_by : (log : List Entry) (x : Whole S K C) (hands : List (Option (Hand C))) (i own given : ℕ) → Follows machine SharedOf first (take i log) x hands → length log ≤ i → own ≡ length x.log.entries → given ≡ length log → Comes machine SharedOf first log x (own == given)
-  comes_by log x hands i own given f all a b = comes log x hands (subst (λ (l : List Entry). Follows machine SharedOf first l x hands) (take_all i log all) f) (own == given)
+  pub comes_by : (log : List Entry) (x : Whole S K C) (hands : List (Option (Hand C))) (i own given : ℕ) → FollowsFront machine SharedOf first (take i log) x hands → length log ≤ i → own ≡ length x.log.entries → given ≡ length log → Comes machine SharedOf first log x (own == given)
+  comes_by log x hands i own given f all a b = comes log x hands (subst (λ (l : List Entry). FollowsFront machine SharedOf first l x hands) (take_all i log all) f) (own == given)
       (λ h. sym a ∙ (same_number own given h ∙ b))
       (λ h. ap (λ (n : ℕ). n == given) (a ∙ (h ∙ sym b)) ∙ same_refl given)
 
@@ -146,11 +146,11 @@ module _ {S K C : Type 0} (machine : K → Machine S C) (SharedOf : K → S → 
   none_out_yet settings k zero = refl
   none_out_yet settings k (suc n) = ap (λ (l : List (Option (Hand C))). None ∷ l) (none_out_yet settings (k + 1) n)
 
-  abbrev s0 : State S C
+  abbrev s0 : RunState S C
   s0 = start m first.settings first.shared
 
   -- the empty front
-  pub begins : (x : Whole S K C) (hands : List (Option (Hand C))) → Reaches machine SharedOf first [] x → hands ≡ replicate 64 None → Follows machine SharedOf first [] x hands
+  pub begins : (x : Whole S K C) (hands : List (Option (Hand C))) → LeadsFromOpening machine SharedOf first [] x → hands ≡ replicate 64 None → FollowsFront machine SharedOf first [] x hands
   begins x hands r none = record {
     at = record {
       reaches = record { opened = r.opened; replays = record { state = s0; leads = record { runs = ap Behind nothing; settled = refl }; is = r.replays.is ∙ (λ i. whole_of machine first (sym nothing i) (s_is i)) } };
@@ -168,8 +168,8 @@ module _ {S K C : Type 0} (machine : K → Machine S C) (SharedOf : K → S → 
       nothing = ap (λ (z : Whole S K C). z.log.entries) r.replays.is
 
   -- one entry more, or none may come
-  pub follows_on : (log : List Entry) (i : ℕ) (e : Entry) (x : Whole S K C) (hands : List (Option (Hand C))) → slice_get log i ≡ Some e → Takes machine SharedOf first (take i log) e x hands true → Follows machine SharedOf first (take (i + 1) log) x hands
-  follows_on log i e x hands there f = subst (λ (l : List Entry). Follows machine SharedOf first l x hands) (taken_more log i e there ∙ ap (λ (n : ℕ). take n log) (let z : suc i ≡ i + 1 = omega arith in z)) f
+  pub follows_on : (log : List Entry) (i : ℕ) (e : Entry) (x : Whole S K C) (hands : List (Option (Hand C))) → slice_get log i ≡ Some e → Takes machine SharedOf first (take i log) e x hands true → FollowsFront machine SharedOf first (take (i + 1) log) x hands
+  follows_on log i e x hands there f = subst (λ (l : List Entry). FollowsFront machine SharedOf first l x hands) (taken_more log i e there ∙ ap (λ (n : ℕ). take n log) (let z : suc i ≡ i + 1 = omega arith in z)) f
 
   pub follows_none : (log : List Entry) (i : ℕ) (e : Entry) (x : Whole S K C) (hands : List (Option (Hand C))) → slice_get log i ≡ Some e → Takes machine SharedOf first (take i log) e x hands false → Comes machine SharedOf first log x false
   follows_none log i e x hands there none = let r = rest_of log i e there in no_journal (take i log ++ e ∷ []) r.0 log r.1 none

@@ -11,7 +11,7 @@ use Rattle.ak_trace.specs.declared.endings.End.{End}
 use Rattle.flat_rules.specs.Machine.{Machine, cleared, sweep, Acted, Turned, looked, stepped, got, got_null, made_thread, refused_thread, found_busy, wants_room, rested, ended, trapped, passed_limit, lacked_stack}
 use Rattle.flat_rules.specs.Entries.{home_entry}
 use Rattle.flat_rules.specs.Draws.{after_draw}
-use Rattle.flat_rules.specs.States.{State, Place, unbegun, home, out, gone, Mood, free, asked, must, place_at, at_home, waits_at, homes_of, is_due, is_wanted, none_out, pick}
+use Rattle.flat_rules.specs.States.{RunState, Place, unbegun, home, out, gone, Mood, free, asked, must, place_at, at_home, waits_at, homes_of, is_due, is_wanted, none_out, pick}
 use Rattle.flat_rules.specs.Events.{Event, Goes, on, back, away, goes, goes_out, goes_on, comes_home, out_event, picked_event, barrier_event, find_event, act_event, home_event, turn_event, turned_by, turned_state, place_after, places_after, ends_with, draw_asks, mood_after, most_local}
 use Rattle.flat_rules.specs.Events as events
 use Rattle.flat_rules.specs.Lawful.{IsFlat, Goes_on, is_for_room}
@@ -86,7 +86,7 @@ module _ {C : Type 0} where
   by_goes t lacked_stack c asks R w m p q r = r
 
 module _ {S K C : Type 0} (machine : K → Machine S C) (first : Whole S K C) (SharedOf : S → Type 0) (ContextOf : C → Type 0) (flat : IsFlat (machine first.code) SharedOf ContextOf)
-    (log : List Entry) (s : State S C) (stands : Stands machine first log s) (i : Invariant (machine first.code) SharedOf ContextOf first.settings s) (w : ℕ) (known : w < first.settings.workers) where
+    (log : List Entry) (s : RunState S C) (stands : Stands machine first log s) (i : Invariant (machine first.code) SharedOf ContextOf first.settings s) (w : ℕ) (known : w < first.settings.workers) where
   abbrev m : Machine S C
   m = machine first.code
 
@@ -200,8 +200,8 @@ module _ {S K C : Type 0} (machine : K → Machine S C) (first : Whole S K C) (S
       k = turns_more (seat_at X.seats (m.thread_of d))
 
       -- the world asks the thread home where the replay does
-      asks : goes a.turned ≡ on → calls.come_home k (seated X (m.thread_of d) k a (goes a.turned)) ≡ events.come_home m first.settings s w (n + 1) (turned_state m first.settings s w (m.thread_of d) a (out w a.context (n + 1) mood))
-      asks q = subst (λ (g : Goes). calls.come_home k (seated X (m.thread_of d) k a g) ≡ events.come_home m first.settings s w (n + 1) (turned_state m first.settings s w (m.thread_of d) a (out w a.context (n + 1) mood))) (sym q)
+      asks : goes a.turned ≡ on → calls.asks_home k (seated X (m.thread_of d) k a (goes a.turned)) ≡ events.is_called_home m first.settings s w (n + 1) (turned_state m first.settings s w (m.thread_of d) a (out w a.context (n + 1) mood))
+      asks q = subst (λ (g : Goes). calls.asks_home k (seated X (m.thread_of d) k a g) ≡ events.is_called_home m first.settings s w (n + 1) (turned_state m first.settings s w (m.thread_of d) a (out w a.context (n + 1) mood))) (sym q)
           (λ j. ((nat_lt 0 (waiting j) || is_due first.settings.every (s.since + 1)) || turns j) || draw_asks first.settings.schedule (after_draw first.settings.schedule s.x))
         where
           stays : goes a.turned ≡ away → ⊥
@@ -217,7 +217,7 @@ module _ {S K C : Type 0} (machine : K → Machine S C) (first : Whole S K C) (S
           turns = ap (nat_le 256) (counted machine first log s stands w known d c n mood there) ∙ capped (n + 1)
 
       abbrev told : Bool
-      told = calls.come_home k (seated X (m.thread_of d) k a (goes a.turned))
+      told = calls.asks_home k (seated X (m.thread_of d) k a (goes a.turned))
 
       -- the thread after its step, by how it goes on
       abbrev Lies : Goes → Option (Hand C) → Type 0

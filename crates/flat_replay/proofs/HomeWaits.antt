@@ -16,7 +16,7 @@ use Rattle.flat_meaning.specs.Stages.{Stage, starts, going, waiting, landed}
 use Rattle.flat_meaning.specs.Words.{Words}
 use Rattle.flat_rules.specs.Machine.{Machine}
 use Rattle.flat_rules.specs.Rules.{Rules}
-use Rattle.flat_rules.specs.States.{Place, unbegun, home, out, gone, State, at_home, homes_of, is_blocked, is_due, is_out, is_ready_at, is_wanted, none_out, place_at, ready, ready_from, waits_at, waits_for_room}
+use Rattle.flat_rules.specs.States.{Place, unbegun, home, out, gone, RunState, at_home, homes_of, is_blocked, is_due, is_out, is_ready_at, is_wanted, none_out, place_at, ready, ready_from, waits_at, waits_for_room}
 use Rattle.flat_rules.specs.inner.Cases.{same_number}
 use Rattle.flat_threads.specs.Belonging.{IsContextOf}
 use Rattle.flat_threads.specs.Contexts.{Context, own_image}
@@ -63,7 +63,7 @@ module _ (code : LinearCode) (rules : Rules) where
       subst (λ (j : ℕ). is_ready_at m shared j (get_or hs k None) ≡ false) (let same : (from + 1) + k ≡ from + suc k = omega arith in same)
       (none_ready shared hs (from + 1) (first_none shared h hs from (is_ready_at m shared from h) refl none).1 k)
 
-  module _ (x : State Shared Context) (held : Invariant m (IsSharedOf code) (IsContextOf code) rules x) (going_on : x.ending ≡ None) (blocked : is_blocked m rules x ≡ true) where
+  module _ (x : RunState Shared Context) (held : Invariant m (IsSharedOf code) (IsContextOf code) rules x) (going_on : x.ending ≡ None) (blocked : is_blocked m rules x ≡ true) where
     -- the thread waits at home
     pub record HomeWaits (n : ℕ) : Type 0 where
       pub thread : Thread Spot Words

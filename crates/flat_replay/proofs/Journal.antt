@@ -24,7 +24,7 @@ use Rattle.flat_rules.specs.Machine.{Machine, cleared, sweep}
 use Rattle.flat_rules.specs.Replays.{run, settled, step}
 use Rattle.flat_rules.specs.declared.settings.Settings.{Settings}
 use Rattle.flat_rules.specs.Rules.{Rules, rules_of}
-use Rattle.flat_rules.specs.States.{Place, unbegun, home, out, State, Mood, free, asked, must, homes_of, is_out, place_at, start, waits_for_room}
+use Rattle.flat_rules.specs.States.{Place, unbegun, home, out, RunState, Mood, free, asked, must, homes_of, is_out, place_at, start, waits_for_room}
 use Rattle.flat_rules.specs.inner.Cases.{Cases, Holds, event_holds, same_number}
 use Rattle.flat_rules.specs.inner.Steps.{run_keeps, step_cases}
 use Rattle.flat_threads.specs.Belonging.{IsContextOf}
@@ -65,7 +65,7 @@ module _ (code : LinearCode) (rules : Rules) where
   abbrev m : Machine Shared Context
   m = machine_of code
 
-  module _ (program : IsProgram code) (x : State Shared Context) (good : Good code rules x) (going : x.ending ≡ None) (w : ℕ) where
+  module _ (program : IsProgram code) (x : RunState Shared Context) (good : Good code rules x) (going : x.ending ≡ None) (w : ℕ) where
     pub sits : Sit m (IsContextOf code) x.shared None x.places
     sits = subst (λ (e : Option End). Sit m (IsContextOf code) x.shared e x.places) going good.held.each
 
@@ -178,10 +178,10 @@ module _ (code : LinearCode) (rules : Rules) where
       abbrev mid : Shared
       mid = (cleared m rules.evacuates x.shared (homes_of x.places)).shared
 
-      abbrev here : events.State Spot
+      abbrev here : events.MachineState Spot
       here = at_home (cleared m rules.evacuates x.shared (homes_of x.places)).shared (homes_of x.places)
 
-      abbrev slid : events.State Spot
+      abbrev slid : events.MachineState Spot
       slid = serving_state (moved_state (sweep_moves (image_of code mid) here) here)
 
       home_is : at_home x.shared (homes_of x.places) ≡ standing_in x
@@ -241,7 +241,7 @@ module _ (code : LinearCode) (rules : Rules) where
 
       both_come : Comes (image_of code x.shared) (standing_in x) (at_home (swept_by code mid homes).shared (swept_by code mid homes).homes) (map serve_pick serves) (λ turns. []) (served_ids serves)
       both_come =
-          subst (λ (z : events.State Spot). Comes (image_of code x.shared) z (at_home (swept_by code mid homes).shared (swept_by code mid homes).homes) (map serve_pick serves) (λ turns. []) (served_ids serves)) home_is
+          subst (λ (z : events.MachineState Spot). Comes (image_of code x.shared) z (at_home (swept_by code mid homes).shared (swept_by code mid homes).homes) (map serve_pick serves) (λ turns. []) (served_ids serves)) home_is
           (joins (image_of code x.shared) (at_home x.shared (homes_of x.places)) here (at_home (swept_by code mid homes).shared (swept_by code mid homes).homes) [] (map serve_pick serves) (λ turns. []) (λ turns. []) [] (served_ids serves) (cleared_comes rules.evacuates)
           (subst (λ (limits : Limits). Comes (linear_image code limits) here (at_home (swept_by code mid homes).shared (swept_by code mid homes).homes) (map serve_pick serves) (λ turns. []) (served_ids serves)) limits_same barrier_comes))
 
@@ -295,21 +295,21 @@ module _ (code : LinearCode) (rules : Rules) where
   -- ---- each entry
 
   module _ (program : IsProgram code) (limits : Limits) where
-    due_told : (log : List Entry) (x : State Shared Context) (due : List Entry) (spare : ℕ) → Told code limits log x → Told code limits log (record x { due = due; spare = spare })
+    due_told : (log : List Entry) (x : RunState Shared Context) (due : List Entry) (spare : ℕ) → Told code limits log x → Told code limits log (record x { due = due; spare = spare })
     due_told log x due spare told = record { state = told.state; comes = told.comes; stands = record { memory = told.stands.memory; ending = told.stands.ending; stages = told.stands.stages }; same = told.same }
 
     -- with the entries that are due
-    pub record Holding (log : List Entry) (x : State Shared Context) : Type 0 where
+    pub record Holding (log : List Entry) (x : RunState Shared Context) : Type 0 where
       pub good : Good code rules x
       pub told : Told code limits (log ++ x.due) x
 
-    keeps : (log : List Entry) (x : State Shared Context) (e : Entry) (y : State Shared Context) → Holding log x → step m rules x e ≡ Some y → Holding (log ++ e ∷ []) y
+    keeps : (log : List Entry) (x : RunState Shared Context) (e : Entry) (y : RunState Shared Context) → Holding log x → step m rules x e ≡ Some y → Holding (log ++ e ∷ []) y
     keeps log x e y h st = record {
       good = good_keeps code rules log x e y h.good st;
       told = step_cases m rules x e y {R = Told code limits ((log ++ e ∷ []) ++ y.due) y}
           (λ n.
           let same : log ++ x.due ≡ (log ++ e ∷ []) ++ n.ds = ap (λ (due : List Entry). log ++ due) n.due ∙ ap (λ (d : Entry). log ++ d ∷ n.ds) (sym (same_is e n.d n.same)) ∙ sym (append_assoc log (e ∷ []) n.ds) in
-          subst (λ (z : State Shared Context). Told code limits ((log ++ e ∷ []) ++ z.due) z) (sym n.is)
+          subst (λ (z : RunState Shared Context). Told code limits ((log ++ e ∷ []) ++ z.due) z) (sym n.is)
           (due_told ((log ++ e ∷ []) ++ n.ds) x n.ds x.spare (subst (λ (es : List Entry). Told code limits es x) same h.told)))
           (λ f.
           let going = none_ends x.ending _ f.live in
@@ -318,25 +318,25 @@ module _ (code : LinearCode) (rules : Rules) where
           let same : (log ++ x.due) ++ f.v.entries ≡ (log ++ e ∷ []) ++ f.ds =
           ap (λ (due : List Entry). (log ++ due) ++ f.v.entries) f.settled ∙ ap (λ (es : List Entry). es ++ f.v.entries) (append-nil log) ∙ ap (λ (es : List Entry). log ++ es) f.entries
           ∙ ap (λ (d : Entry). log ++ d ∷ f.ds) (sym (same_is e f.d f.same)) ∙ sym (append_assoc log (e ∷ []) f.ds) in
-          subst (λ (z : State Shared Context). Told code limits ((log ++ e ∷ []) ++ z.due) z) (sym f.is)
+          subst (λ (z : RunState Shared Context). Told code limits ((log ++ e ∷ []) ++ z.due) z) (sym f.is)
           (due_told ((log ++ e ∷ []) ++ f.ds) f.v.after f.ds _ (subst (λ (es : List Entry). Told code limits es f.v.after) same all)))
           st;
     }
 
 -- ---- the law
 
-is_settled : (code : LinearCode) (rules : Rules) (x y : State Shared Context) → settled (machine_of code) rules x ≡ Some y → (x ≡ y) × (y.due ≡ [])
+is_settled : (code : LinearCode) (rules : Rules) (x y : RunState Shared Context) → settled (machine_of code) rules x ≡ Some y → (x ≡ y) × (y.due ≡ [])
 is_settled code rules x y is = by (length x.due == 0) refl is where
   none : (due : List Entry) → length due ≡ 0 → due ≡ []
   none [] e = refl
   none (d ∷ ds) e = absurd (omega (arith, e))
 
   by : (b : Bool) → (length x.due == 0) ≡ b → cond b (Some x) None ≡ Some y → (x ≡ y) × (y.due ≡ [])
-  by true e is = let same : x ≡ y = cc in (same, sym (ap (λ (z : State Shared Context). z.due) same) ∙ none x.due (same_number (length x.due) 0 e))
+  by true e is = let same : x ≡ y = cc in (same, sym (ap (λ (z : RunState Shared Context). z.due) same) ∙ none x.due (same_number (length x.due) 0 e))
   by false e is = absurd cc
 
 -- a run of entries holds
-pub holding : (code : LinearCode) (s : Settings) (program : IsProgram code) → IsLoadable (linear_image code (settings_limits s)).layout → (log : List Entry) (x : State Shared Context)
+pub holding : (code : LinearCode) (s : Settings) (program : IsProgram code) → IsLoadable (linear_image code (settings_limits s)).layout → (log : List Entry) (x : RunState Shared Context)
     → run (machine_of code) (rules_of s) log (start (machine_of code) (rules_of s) (first_shared code (settings_limits s))) ≡ Some x → Holding code (rules_of s) program (settings_limits s) log x
 holding code s program loadable log x ran =
     run_keeps (machine_of code) (rules_of s) (Holding code (rules_of s) program (settings_limits s)) (keeps code (rules_of s) program (settings_limits s)) [] log (start (machine_of code) (rules_of s) (first_shared code (settings_limits s))) x at_start ran
@@ -353,7 +353,7 @@ holding code s program loadable log x ran =
     }
 
 -- where no entry is due, what was told is of the entries so far
-pub told_now : (code : LinearCode) (limits : Limits) (log : List Entry) (x : State Shared Context) → x.due ≡ [] → Told code limits (log ++ x.due) x → Told code limits log x
+pub told_now : (code : LinearCode) (limits : Limits) (log : List Entry) (x : RunState Shared Context) → x.due ≡ [] → Told code limits (log ++ x.due) x → Told code limits log x
 told_now code limits log x none told = subst (λ (es : List Entry). Told code limits es x) (ap (λ (due : List Entry). log ++ due) none ∙ append-nil log) told
 
 pub a_journal_is_of_events : AJournalIsOfEvents
@@ -362,15 +362,15 @@ a_journal_is_of_events code s program loadable log x replays =
     let end_ = is_settled code (rules_of s) z x is in
     of_events x end_.1 (subst (Holding code (rules_of s) program (settings_limits s) log) end_.0 (holding code s program loadable log z ran)))
   where
-    of_events : (x : State Shared Context) → x.due ≡ [] → Holding code (rules_of s) program (settings_limits s) log x → IsOfEvents code s log x
+    of_events : (x : RunState Shared Context) → x.due ≡ [] → Holding code (rules_of s) program (settings_limits s) log x → IsOfEvents code s log x
     of_events x none h =
         let told : Told code (settings_limits s) log x = told_now code (settings_limits s) log x none h.told in
         record {
           events = told.comes.events;
           allowed = told.comes.allowed;
-          memory = ap (λ (z : events.State Spot). z.memory) told.comes.after ∙ told.stands.memory;
-          ending = ap (λ (z : events.State Spot). z.end) told.comes.after ∙ told.stands.ending;
-          stages = λ going. ap (λ (z : events.State Spot). z.own) told.comes.after ∙ told.stands.stages going;
+          memory = ap (λ (z : events.MachineState Spot). z.memory) told.comes.after ∙ told.stands.memory;
+          ending = ap (λ (z : events.MachineState Spot). z.end) told.comes.after ∙ told.stands.ending;
+          stages = λ going. ap (λ (z : events.MachineState Spot). z.own) told.comes.after ∙ told.stands.stages going;
           image = ap (linear_image code) told.same;
           order = told.comes.order;
           attempts = told.comes.attempts 0;

@@ -7,7 +7,7 @@ use Rattle.flat_rules.specs.Events.{Event, Goes, on, back, away, ends_with, goes
 use Rattle.flat_rules.specs.Machine.{Machine, Acted, Turned, looked, stepped, got, got_null, made_thread, refused_thread, found_busy, wants_room, rested, ended, trapped, passed_limit, lacked_stack}
 use Rattle.flat_rules.specs.Replays.{step, run}
 use Rattle.flat_rules.specs.Rules.{Rules}
-use Rattle.flat_rules.specs.States.{State, Mood, free, asked, start}
+use Rattle.flat_rules.specs.States.{RunState, Mood, free, asked, start}
 use Rattle.flat_rules.specs.inner.Cases.{Cases, Holds, event_holds}
 use Rattle.flat_rules.specs.inner.Steps.{run_keeps, step_cases}
 use Rattle.world_rules.proofs.Invariant.{none_ends}
@@ -26,7 +26,7 @@ module _ {S C : Type 0} (m : Machine S C) (rules : Rules) where
   TriesIf v = v.after.ending ≡ Some ends.OutputLimit → TriesOne v
 
   -- by how the turn went
-  one_try : (w t local : ℕ) (after : State S C) (turned : Turned) → ends_with t turned ≡ Some ends.OutputLimit → TriesOne (record { entries = turn_entry w t local turned ∷ []; after = after })
+  one_try : (w t local : ℕ) (after : RunState S C) (turned : Turned) → ends_with t turned ≡ Some ends.OutputLimit → TriesOne (record { entries = turn_entry w t local turned ∷ []; after = after })
   one_try w t local after looked e = absurd cc
   one_try w t local after stepped e = absurd cc
   one_try w t local after (got id place) e = absurd cc
@@ -45,14 +45,14 @@ module _ {S C : Type 0} (m : Machine S C) (rules : Rules) where
   one_try w t local after lacked_stack e = absurd cc
 
   -- a turn of a thread
-  after_turn : (x : State S C) (w t n : ℕ) (mood : Mood) (a : Acted S C) → TriesIf (turn_event m rules x w t n mood a)
+  after_turn : (x : RunState S C) (w t n : ℕ) (mood : Mood) (a : Acted S C) → TriesIf (turn_event m rules x w t n mood a)
   after_turn x w t n mood a e = one_try w t a.local (turn_event m rules x w t n mood a).after a.turned (by (goes a.turned) e) where
     by : (g : Goes) → (turned_by m rules x w t (n + 1) mood a g).ending ≡ Some ends.OutputLimit → ends_with t a.turned ≡ Some ends.OutputLimit
     by on h = h
     by back h = h
     by away h = h
 
-  cases : (x : State S C) → x.ending ≡ None → (w : ℕ) → Cases m rules x w TriesIf
+  cases : (x : RunState S C) → x.ending ≡ None → (w : ℕ) → Cases m rules x w TriesIf
   cases x going w = record {
     begins = λ t c calm picked at e. let bad : None ≡ Some ends.OutputLimit = sym going ∙ e in absurd cc;
     leaves = λ t c calm picked at e. let bad : None ≡ Some ends.OutputLimit = sym going ∙ e in absurd cc;
@@ -63,7 +63,7 @@ module _ {S C : Type 0} (m : Machine S C) (rules : Rules) where
   }
 
   -- the last entry is an attempt, and none is due
-  pub record TriesLast (log : List Entry) (x : State S C) : Type 0 where
+  pub record TriesLast (log : List Entry) (x : RunState S C) : Type 0 where
     pub before : List Entry
     pub entry : Entry
     pub is : log ≡ before ++ entry ∷ []
@@ -71,10 +71,10 @@ module _ {S C : Type 0} (m : Machine S C) (rules : Rules) where
     pub none_due : x.due ≡ []
 
   -- where the run ended at the limit
-  abbrev AtLimit : List Entry → State S C → Type 0
+  abbrev AtLimit : List Entry → RunState S C → Type 0
   AtLimit log x = x.ending ≡ Some ends.OutputLimit → TriesLast log x
 
-  keeps : (log : List Entry) (x : State S C) (e : Entry) (y : State S C) → AtLimit log x → step m rules x e ≡ Some y → AtLimit (log ++ e ∷ []) y
+  keeps : (log : List Entry) (x : RunState S C) (e : Entry) (y : RunState S C) → AtLimit log x → step m rules x e ≡ Some y → AtLimit (log ++ e ∷ []) y
   keeps log x e y h st = step_cases m rules x e y {R = AtLimit (log ++ e ∷ []) y}
       (λ n. subst (AtLimit (log ++ e ∷ [])) (sym n.is) (λ (over : x.ending ≡ Some ends.OutputLimit). let bad : [] ≡ n.d ∷ n.ds = sym (h over).none_due ∙ n.due in absurd cc))
       (λ f. subst (AtLimit (log ++ e ∷ [])) (sym f.is) (λ (over : f.v.after.ending ≡ Some ends.OutputLimit).
@@ -87,5 +87,5 @@ module _ {S C : Type 0} (m : Machine S C) (rules : Rules) where
       st
 
   -- so it is behind each journal
-  pub tries_last : (first : S) (log : List Entry) (x : State S C) → run m rules log (start m rules first) ≡ Some x → x.ending ≡ Some ends.OutputLimit → TriesLast log x
+  pub tries_last : (first : S) (log : List Entry) (x : RunState S C) → run m rules log (start m rules first) ≡ Some x → x.ending ≡ Some ends.OutputLimit → TriesLast log x
   tries_last first log x ran = run_keeps m rules AtLimit keeps [] log (start m rules first) x (λ e. absurd cc) ran

@@ -9,7 +9,7 @@ use Rattle.flat_rules.specs.Lawful.{IsFlat, IsOpened, Leaves, is_end}
 use Rattle.flat_rules.specs.Machine.{Machine, Turned, looked, stepped, got, got_null, made_thread, refused_thread, found_busy, wants_room, rested, ended, trapped, passed_limit, lacked_stack}
 use Rattle.flat_rules.specs.Replays.{step, run}
 use Rattle.flat_rules.specs.Rules.{Rules}
-use Rattle.flat_rules.specs.States.{State, out, Mood, free, asked, homes_of, is_out, place_at, start}
+use Rattle.flat_rules.specs.States.{RunState, out, Mood, free, asked, homes_of, is_out, place_at, start}
 use Rattle.flat_rules.specs.inner.Cases.{Cases, Holds, event_holds, same_number, same_refl}
 use Rattle.flat_rules.specs.inner.Steps.{run_keeps, step_cases}
 use Rattle.flat_rules.proofs.Clearing.{sweeps_on}
@@ -78,14 +78,14 @@ and_none false b e = refl
 
 module _ {S C : Type 0} (m : Machine S C) (SharedOf : S → Type 0) (ContextOf : C → Type 0) (rules : Rules) (flat : IsFlat m SharedOf ContextOf) where
   -- main hasn't ended, unless by its value
-  abbrev pub Goes_on : State S C → Type 0
+  abbrev pub Goes_on : RunState S C → Type 0
   Goes_on x = NotDone x.ending → m.has_ended x.shared 0 ≡ false
 
   -- the thread whose call had no room was made, and hasn't ended
-  abbrev pub Lacks : State S C → Type 0
+  abbrev pub Lacks : RunState S C → Type 0
   Lacks x = (n : ℕ) → x.ending ≡ Some (ends.StackLimit n) → (m.has_ended x.shared n ≡ false) × (n < m.threads x.shared)
 
-  module _ (x : State S C) (i : Invariant m SharedOf ContextOf rules x) (going : x.ending ≡ None) (w : ℕ) (main : m.has_ended x.shared 0 ≡ false) where
+  module _ (x : RunState S C) (i : Invariant m SharedOf ContextOf rules x) (going : x.ending ≡ None) (w : ℕ) (main : m.has_ended x.shared 0 ≡ false) where
     sits : Sit m ContextOf x.shared None x.places
     sits = subst (λ (e : Option End). Sit m ContextOf x.shared e x.places) going i.each
 
@@ -152,13 +152,13 @@ module _ {S C : Type 0} (m : Machine S C) (SharedOf : S → Type 0) (ContextOf :
     }
 
   -- with what holds of each state of a replay
-  pub record Holding (x : State S C) : Type 0 where
+  pub record Holding (x : RunState S C) : Type 0 where
     pub held : Invariant m SharedOf ContextOf rules x
     pub main : Goes_on x
     pub lack : Lacks x
 
   -- each entry keeps it
-  keeps : (log : List Entry) (x : State S C) (e : Entry) (y : State S C) → Holding x → step m rules x e ≡ Some y → Holding y
+  keeps : (log : List Entry) (x : RunState S C) (e : Entry) (y : RunState S C) → Holding x → step m rules x e ≡ Some y → Holding y
   keeps log x e y h st = record {
     held = invariant_keeps m SharedOf ContextOf rules flat log x e y h.held st;
     main = step_cases m rules x e y {R = Goes_on y}
@@ -178,6 +178,6 @@ module _ {S C : Type 0} (m : Machine S C) (SharedOf : S → Type 0) (ContextOf :
   }
 
   -- so it holds behind each journal
-  pub main_runs : (first : S) → IsOpened m SharedOf first → (log : List Entry) (x : State S C) → run m rules log (start m rules first) ≡ Some x → Holding x
+  pub main_runs : (first : S) → IsOpened m SharedOf first → (log : List Entry) (x : RunState S C) → run m rules log (start m rules first) ≡ Some x → Holding x
   main_runs first opened log x ran =
       run_keeps m rules (λ _ z. Holding z) keeps [] log (start m rules first) x (record { held = starts m SharedOf ContextOf rules flat first opened; main = λ h. opened.going 0; lack = λ n e. absurd cc }) ran

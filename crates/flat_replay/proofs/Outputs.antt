@@ -15,16 +15,16 @@ use Rattle.struct_ir.specs.Threads.{Thread, Outcome, Served, serves, refuses, fa
 use Rattle.ak_trace.specs.declared.endings.TrapKind.{TrapKind}
 use Rattle.ak_trace.specs.declared.endings.TrapKind.TheVariants as kinds
 use Rattle.flat_meaning.specs.Accesses.{Fault, Choice, plain, got, null, wait, Done, went, waits, unfit, over, is_plain, within, allocated, zeroed, renewed, guarded, with_copy, trap, prints, output_room}
-use Rattle.flat_meaning.specs.Actions.{acted, is_equal, is_free, joined_at, joined_if, joined_with, may_start, number_at, printed_parts}
+use Rattle.flat_meaning.specs.Actions.{acted_on_memory, is_equal, is_free, joined_at, joined_if, joined_with, may_start, number_at, printed_parts}
 use Rattle.flat_meaning.specs.Effects as effects
 use Rattle.flat_meaning.specs.Effects.{Effect, act_before, act_effect, gone_effect, look_before, look_effect, own_list_of, serve_effect, step_effect, stop_of}
 use Rattle.flat_meaning.specs.Events as events
-use Rattle.flat_meaning.specs.Events.{State, Serve, Event, act, barrier, local, after, after_all, after_serve, after_serves, moved_state, put_if, serving_state}
+use Rattle.flat_meaning.specs.Events.{MachineState, Serve, Event, act, barrier, local, after, after_all, after_serve, after_serves, moved_state, put_if, serving_state}
 use Rattle.flat_meaning.specs.Image.{Image, Layout}
 use Rattle.flat_meaning.specs.Machine.{given, served_by, served_plainly, words_machine, words_world}
 use Rattle.flat_meaning.specs.Memory.{Made, Memory, left_by, thread_ended, with_storage}
 use Rattle.flat_meaning.specs.Printing.{Read, outside, read_parts, reads, too_long}
-use Rattle.flat_meaning.specs.Stages.{Stage, starts, going, waiting, landed, Before, safe, looks, steps, calls, turn_over, nothing, before, room_for, can_go}
+use Rattle.flat_meaning.specs.Stages.{Stage, starts, going, waiting, landed, Before, safe, looks, steps, calls, turn_over, nothing, before, room_for, can_advance}
 use Rattle.flat_meaning.specs.Words.{Target, Words, target_of, word_at}
 
 -- the output begins with what was printed before
@@ -107,7 +107,7 @@ module _ (m : Memory) where
 
   module _ (y : Layout) (n : ℕ) (c : Choice) where
     -- only print appends
-    action_grows : (a : Action) (ps : List Target) (ws : List ℕ) → DoneGrows m (acted y n c a ps ws m)
+    action_grows : (a : Action) (ps : List Target) (ws : List ℕ) → DoneGrows m (acted_on_memory y n c a ps ws m)
     action_grows (load how) (a ∷ []) [] = plainly c _ (within_grows kinds.Load (first_outside m.storage.bytes a.address (size_of how)) _ still)
     action_grows (store how) (a ∷ []) (w ∷ []) = plainly c _ (within_grows kinds.Store (first_outside m.storage.bytes a.address (size_of how)) _ still)
     action_grows (copy_bytes align same) (a ∷ b ∷ []) (w ∷ []) = plainly c _ (within_grows kinds.Copy (first_outside_of_both m.storage.bytes a.address b.address w) _ still)
@@ -200,7 +200,7 @@ module _ {P : Type 0} (m : Memory) where
     abbrev EffectGrows : Effect P → Type 0
     EffectGrows e = Grows m e.memory
 
-    acted_grows : (stage : Stage P) (t : Thread P Words) (list : Option (List ℕ)) (o : Outcome P Words Fault Memory) → OutcomeGrows o → EffectGrows (effects.acted k stage t list m o)
+    acted_grows : (stage : Stage P) (t : Thread P Words) (list : Option (List ℕ)) (o : Outcome P Words Fault Memory) → OutcomeGrows o → EffectGrows (effects.effect_of_outcome k stage t list m o)
     acted_grows stage t list (threads.went q n) h = h
     acted_grows stage t list (threads.ended l n) h = h
     acted_grows stage t list threads.blocked h = still m
@@ -231,7 +231,7 @@ module _ {P : Type 0} (m : Memory) where
     look_before_grows stage t nothing = still m
 
     act_grows : (c : Choice) (stage : Stage P) → EffectGrows (act_effect x k c stage m)
-    act_grows c (starts function argument) = either_effect (can_go x (starts function argument)) _ _ (still m) (still m)
+    act_grows c (starts function argument) = either_effect (can_advance x (starts function argument)) _ _ (still m) (still m)
     act_grows c (going t) = act_before_grows c (going t) t (before x t)
     act_grows c (waiting t) = act_before_grows c (waiting t) t (before x t)
     act_grows c (landed list t) = act_before_grows c (landed list t) t (before x t)
@@ -249,28 +249,28 @@ module _ {P : Type 0} (m : Memory) where
     serve_grows c (landed list t) = still m
 
     gone_grows : (stage : Stage P) → EffectGrows (gone_effect x k stage m)
-    gone_grows stage = either_effect (can_go x stage) _ _ (still m) (still m)
+    gone_grows stage = either_effect (can_advance x stage) _ _ (still m) (still m)
 
 -- ---- all events
 
 module _ {P : Type 0} (x : Image P) where
-  put_grows : (s : State P) (thread : ℕ) (effect : Stage P → Memory → Effect P) → ((stage : Stage P) → Grows s.memory (effect stage s.memory).memory) → (o : Option (Stage P)) → Grows s.memory (put_if s thread effect o).memory
+  put_grows : (s : MachineState P) (thread : ℕ) (effect : Stage P → Memory → Effect P) → ((stage : Stage P) → Grows s.memory (effect stage s.memory).memory) → (o : Option (Stage P)) → Grows s.memory (put_if s thread effect o).memory
   put_grows s thread effect grows None = still s.memory
   put_grows s thread effect grows (Some stage) = grows stage
 
-  after_serve_grows : (s : State P) (v : Serve) → Grows s.memory (after_serve x s v).memory
+  after_serve_grows : (s : MachineState P) (v : Serve) → Grows s.memory (after_serve x s v).memory
   after_serve_grows s v = put_grows s v.thread (serve_effect x v.thread v.choice) (serve_grows s.memory x v.thread v.choice) (own_at s.own v.thread)
 
-  pub after_serves_grows : (vs : List Serve) (s : State P) → Grows s.memory (after_serves x vs s).memory
+  pub after_serves_grows : (vs : List Serve) (s : MachineState P) → Grows s.memory (after_serves x vs s).memory
   after_serves_grows [] s = still s.memory
   after_serves_grows (v ∷ vs) s = prefix_of_prefix s.memory.output (after_serve x s v).memory.output (after_serves x vs (after_serve x s v)).memory.output (after_serve_grows s v) (after_serves_grows vs (after_serve x s v))
 
-  pub after_grows : (s : State P) (e : Event) → Grows s.memory (after x s e).memory
+  pub after_grows : (s : MachineState P) (e : Event) → Grows s.memory (after x s e).memory
   after_grows s (local thread) = put_grows s thread (gone_effect x thread) (gone_grows s.memory x thread) (own_at s.own thread)
   after_grows s (events.look thread) = put_grows s thread (look_effect x thread) (look_grows s.memory x thread) (own_at s.own thread)
   after_grows s (act thread choice) = put_grows s thread (act_effect x thread choice) (act_grows s.memory x thread choice) (own_at s.own thread)
   after_grows s (barrier moves served) = after_serves_grows served (serving_state (moved_state moves s))
 
-  pub after_all_grows : (es : List Event) (s : State P) → Grows s.memory (after_all x es s).memory
+  pub after_all_grows : (es : List Event) (s : MachineState P) → Grows s.memory (after_all x es s).memory
   after_all_grows [] s = still s.memory
   after_all_grows (e ∷ es) s = prefix_of_prefix s.memory.output (after x s e).memory.output (after_all x es (after x s e)).memory.output (after_grows s e) (after_all_grows es (after x s e))

@@ -6,7 +6,7 @@ use Rattle.struct_ir.specs.Instrs.{LinearCode}
 use Rattle.ak_trace.specs.declared.endings.End.{End}
 use Rattle.flat_rules.specs.declared.settings.Settings.{Settings}
 use Rattle.flat_rules.specs.Rules.{rules_of}
-use Rattle.flat_rules.specs.States.{State, end_of}
+use Rattle.flat_rules.specs.States.{RunState, end_of}
 use Rattle.flat_threads.specs.Contexts.{Context}
 use Rattle.run_report.specs.declared.report.Report.{Report}
 use Rattle.flat_machine.specs.Machine.{machine_of}
@@ -20,7 +20,7 @@ final output end report = record { output = output; end = end; report = report }
 
 module _ (code : LinearCode) (s : Settings) (log : List Entry) where
   -- what is shared in a state, and the end
-  abbrev pub reached : State Shared Context → Shared × Option End
+  abbrev pub reached : RunState Shared Context → Shared × Option End
   reached x = (x.shared, end_of (machine_of code) (rules_of s) x)
 
   -- what these tell
@@ -28,7 +28,7 @@ module _ (code : LinearCode) (s : Settings) (log : List Entry) where
   told p = final p.0.memory.output p.1 (report_of p.0 (length log))
 
   -- which is what the state tells
-  told_reached : (o : Option (State Shared Context)) → option_map told (option_map reached o) ≡ option_map (final_at code s log) o
+  told_reached : (o : Option (RunState Shared Context)) → option_map told (option_map reached o) ≡ option_map (final_at code s log) o
   told_reached None = refl
   told_reached (Some x) = refl
 

@@ -4,7 +4,7 @@ use Rattle.std.proofs.lemmas.List.{length-append, map-append}
 use Rattle.block_store.specs.Runs.{Pick}
 use Rattle.struct_ir.specs.Linear.{Spot}
 use Rattle.flat_meaning.specs.Allowed.{AreAllowed}
-use Rattle.flat_meaning.specs.Events.{State, Event, after, after_all}
+use Rattle.flat_meaning.specs.Events.{MachineState, Event, after, after_all}
 use Rattle.flat_meaning.specs.Image.{Image}
 use Rattle.flat_meaning.specs.Order.{Attempt, attempts_of, order_of, picks_of, tried_by}
 use Rattle.flat_meaning.specs.Start.{ids_of}
@@ -12,25 +12,25 @@ use Rattle.flat_simulation.proofs.EventRuns.{ids_of-append}
 use Rattle.flat_replay.specs.Attempts.{placed}
 
 module _ (x : Image Spot) where
-  after_all-append : (es fs : List Event) (s : State Spot) → after_all x (es ++ fs) s ≡ after_all x fs (after_all x es s)
+  after_all-append : (es fs : List Event) (s : MachineState Spot) → after_all x (es ++ fs) s ≡ after_all x fs (after_all x es s)
   after_all-append [] fs s = refl
   after_all-append (e ∷ es) fs s = after_all-append es fs (after x s e)
 
-  allowed-append : (es fs : List Event) (s : State Spot) → AreAllowed x es s → AreAllowed x fs (after_all x es s) → AreAllowed x (es ++ fs) s
+  allowed-append : (es fs : List Event) (s : MachineState Spot) → AreAllowed x es s → AreAllowed x fs (after_all x es s) → AreAllowed x (es ++ fs) s
   allowed-append [] fs s h k = k
   allowed-append (e ∷ es) fs s h k = (h.0, allowed-append es fs (after x s e) h.1 k)
 
-  order-append : (es fs : List Event) (s : State Spot) → order_of x (es ++ fs) s ≡ order_of x es s ++ order_of x fs (after_all x es s)
+  order-append : (es fs : List Event) (s : MachineState Spot) → order_of x (es ++ fs) s ≡ order_of x es s ++ order_of x fs (after_all x es s)
   order-append [] fs s = refl
   order-append (e ∷ es) fs s = ap (λ (ps : List Pick). picks_of x s e ++ ps) (order-append es fs (after x s e)) ∙ sym (append_assoc (picks_of x s e) (order_of x es (after x s e)) (order_of x fs (after_all x es (after x s e))))
 
-  abbrev tries : Event → (turns : ℕ) → State Spot → List Attempt
+  abbrev tries : Event → (turns : ℕ) → MachineState Spot → List Attempt
   tries e turns s = map (λ (p : Pick). record { turn = p; position = turns }) (tried_by x s e)
 
-  attempts-append : (es fs : List Event) (turns : ℕ) (s : State Spot) → attempts_of x (es ++ fs) turns s ≡ attempts_of x es turns s ++ attempts_of x fs (turns + length (order_of x es s)) (after_all x es s)
+  attempts-append : (es fs : List Event) (turns : ℕ) (s : MachineState Spot) → attempts_of x (es ++ fs) turns s ≡ attempts_of x es turns s ++ attempts_of x fs (turns + length (order_of x es s)) (after_all x es s)
   attempts-append [] fs turns s = let same : turns ≡ turns + 0 = omega arith in ap (λ (n : ℕ). attempts_of x fs n s) same
   attempts-append (e ∷ es) fs turns s =
-      let next : State Spot = after x s e in
+      let next : MachineState Spot = after x s e in
       let mid : ℕ = turns + length (picks_of x s e) in
       let same : mid + length (order_of x es next) ≡ turns + length (picks_of x s e ++ order_of x es next) = omega (arith, length-append (picks_of x s e) (order_of x es next)) in
       ap (λ (as' : List Attempt). tries e turns s ++ as') (attempts-append es fs mid next ∙ ap (λ (n : ℕ). attempts_of x es mid next ++ attempts_of x fs n (after_all x es next)) same)
@@ -38,7 +38,7 @@ module _ (x : Image Spot) where
 
   -- events that may come from one state on, and lead to another; the turns that they make, and those that they try, by the turns before;
   -- and the ids that they hand out
-  pub record Comes (s t : State Spot) (picks : List Pick) (tried : ℕ → List (ℕ × ℕ)) (given : List ℕ) : Type 0 where
+  pub record Comes (s t : MachineState Spot) (picks : List Pick) (tried : ℕ → List (ℕ × ℕ)) (given : List ℕ) : Type 0 where
     pub events : List Event
     pub allowed : AreAllowed x events s
     pub after : after_all x events s ≡ t
@@ -46,10 +46,10 @@ module _ (x : Image Spot) where
     pub attempts : (turns : ℕ) → map placed (attempts_of x events turns s) ≡ tried turns
     pub ids : ids_of events ≡ given
 
-  pub none_come : (s : State Spot) → Comes s s [] (λ turns. []) []
+  pub none_come : (s : MachineState Spot) → Comes s s [] (λ turns. []) []
   none_come s = record { events = []; allowed = tt; after = refl; order = refl; attempts = λ turns. refl; ids = refl }
 
-  joined : (s u : State Spot) (p p2 : List Pick) (q q2 : ℕ → List (ℕ × ℕ)) (g g2 : List ℕ) (es : List Event) → AreAllowed x es s → order_of x es s ≡ p → ((turns : ℕ) → map placed (attempts_of x es turns s) ≡ q turns) → ids_of es ≡ g
+  joined : (s u : MachineState Spot) (p p2 : List Pick) (q q2 : ℕ → List (ℕ × ℕ)) (g g2 : List ℕ) (es : List Event) → AreAllowed x es s → order_of x es s ≡ p → ((turns : ℕ) → map placed (attempts_of x es turns s) ≡ q turns) → ids_of es ≡ g
       → Comes (after_all x es s) u p2 q2 g2 → Comes s u (p ++ p2) (λ turns. q turns ++ q2 (turns + length p)) (g ++ g2)
   joined s u p p2 q q2 g g2 es allowed order attempts ids b = record {
     events = es ++ b.events;
@@ -66,5 +66,5 @@ module _ (x : Image Spot) where
   }
 
   -- one behind the other
-  pub joins : (s t u : State Spot) (p p2 : List Pick) (q q2 : ℕ → List (ℕ × ℕ)) (g g2 : List ℕ) → Comes s t p q g → Comes t u p2 q2 g2 → Comes s u (p ++ p2) (λ turns. q turns ++ q2 (turns + length p)) (g ++ g2)
-  joins s t u p p2 q q2 g g2 a b = joined s u p p2 q q2 g g2 a.events a.allowed a.order a.attempts a.ids (subst (λ (z : State Spot). Comes z u p2 q2 g2) (sym a.after) b)
+  pub joins : (s t u : MachineState Spot) (p p2 : List Pick) (q q2 : ℕ → List (ℕ × ℕ)) (g g2 : List ℕ) → Comes s t p q g → Comes t u p2 q2 g2 → Comes s u (p ++ p2) (λ turns. q turns ++ q2 (turns + length p)) (g ++ g2)
+  joins s t u p p2 q q2 g g2 a b = joined s u p p2 q q2 g g2 a.events a.allowed a.order a.attempts a.ids (subst (λ (z : MachineState Spot). Comes z u p2 q2 g2) (sym a.after) b)

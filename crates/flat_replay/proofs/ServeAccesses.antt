@@ -21,7 +21,7 @@ use Rattle.flat_meaning.specs.Words.{Words}
 use Rattle.flat_rules.specs.declared.settings.Settings.{Settings}
 use Rattle.flat_rules.specs.Events.{Event}
 use Rattle.flat_rules.specs.Rules.{rules_of}
-use Rattle.flat_rules.specs.States.{State, homes_of, is_out, none_out}
+use Rattle.flat_rules.specs.States.{RunState, homes_of, is_out, none_out}
 use Rattle.flat_rules.specs.inner.Cases.{Holds, event_holds, same_number}
 use Rattle.flat_rules.specs.inner.Steps.{IsFirst, same_kind}
 use Rattle.flat_threads.specs.Contexts.{Context, IsProgram}
@@ -50,15 +50,15 @@ use Rattle.flat_replay.proofs.Told.{Told}
 module _ (p : Ir) (code : LinearCode) (s : Settings) (program : IsProgram code)
     (follows : (es : List events.Event) → AreAllowed (image_for code s) es (first_state (image_for code s))
     → UpToAKind p (order_of (image_for code s) es (first_state (image_for code s))) (λ u. LinearStandsAfter (image_for code s) p es u (after_all (image_for code s) es (first_state (image_for code s)))))
-    (log : List Entry) (x : State Shared Context) (leads : replay code s log ≡ Some x) (good : Good code (rules_of s) x) (told : Told code (settings_limits s) log x) (going : x.ending ≡ None) where
+    (log : List Entry) (x : RunState Shared Context) (leads : replay code s log ≡ Some x) (good : Good code (rules_of s) x) (told : Told code (settings_limits s) log x) (going : x.ending ≡ None) where
   abbrev loaded : Image Spot
   loaded = image_for code s
 
   module _ (quiet : count_by is_out x.places ≡ 0) where
-    abbrev here : events.State Spot
+    abbrev here : events.MachineState Spot
     here = at_home (middle code s x) (homes_of x.places)
 
-    abbrev slid : events.State Spot
+    abbrev slid : events.MachineState Spot
     slid = swept_first code (middle code s x) x
 
     abbrev serves : List Serve
@@ -72,7 +72,7 @@ module _ (p : Ir) (code : LinearCode) (s : Settings) (program : IsProgram code)
 
     -- the run goes on behind them all
     all_on : (after_serves (image_of code (middle code s x)) serves slid).end ≡ None
-    all_on = sym (ap (λ (z : events.State Spot). z.end) the_barrier.after)
+    all_on = sym (ap (λ (z : events.MachineState Spot). z.end) the_barrier.after)
 
     -- where it begins to serve, no object is about to leave
     begins : IsServing slid
@@ -80,14 +80,14 @@ module _ (p : Ir) (code : LinearCode) (s : Settings) (program : IsProgram code)
 
     -- an allocation, behind these
     module _ (vs : List Serve) (v : Serve) (us : List Serve) (is : sweep_serves (image_of code (middle code s x)) (at_home (middle code s x) (homes_of x.places)) ≡ vs ++ v ∷ us) where
-      abbrev r : events.State Spot
+      abbrev r : events.MachineState Spot
       r = after_serves (image_of code (middle code s x)) vs (swept_first code (middle code s x) x)
 
       may : MayServeAll (image_of code (middle code s x)) vs slid × MayServeAll (image_of code (middle code s x)) (v ∷ us) r
       may = serves_front (image_of code (middle code s x)) vs (v ∷ us) slid (subst (λ (l : List Serve). MayServeAll (image_of code (middle code s x)) l slid) is the_barrier.allowed.0.1.2)
 
       on : r.end ≡ None
-      on = serves_on (image_of code (middle code s x)) (v ∷ us) r (ap (λ (z : events.State Spot). z.end) (sym (after_serves-append (image_of code (middle code s x)) vs (v ∷ us) slid) ∙ ap (λ (l : List Serve). after_serves (image_of code (middle code s x)) l slid) (sym is)) ∙ all_on)
+      on = serves_on (image_of code (middle code s x)) (v ∷ us) r (ap (λ (z : events.MachineState Spot). z.end) (sym (after_serves-append (image_of code (middle code s x)) vs (v ∷ us) slid) ∙ ap (λ (l : List Serve). after_serves (image_of code (middle code s x)) l slid) (sym is)) ∙ all_on)
 
       who : Waiting (image_of code (middle code s x)) r.memory v.choice (own_at r.own v.thread)
       who = waits_there (image_of code (middle code s x)) r.memory v.choice (own_at r.own v.thread) may.1.0
@@ -118,7 +118,7 @@ module _ (p : Ir) (code : LinearCode) (s : Settings) (program : IsProgram code)
           joins loaded (at_home x.shared (homes_of x.places)) here (served_state r) [] _ (λ turns. []) (λ turns. []) [] (served_ids vs) cleared_loaded at_loaded in
           let may_loaded : MayServe loaded r.memory v.choice (Some (waiting who.thread)) = subst (λ (l : Limits). MayServe (linear_image code l) r.memory v.choice (Some (waiting who.thread))) limits who.may in
           let all = joins loaded (first_state loaded) told.state (served_state r) _ _ _ _ (ids_told log) (served_ids vs) told.comes
-          (subst (λ (z : events.State Spot). Comes loaded z (served_state r) (picks_of_serves (image_of code (middle code s x)) vs (swept_first code (middle code s x) x)) (λ turns. []) (served_ids vs)) (sym home_is) both) in (
+          (subst (λ (z : events.MachineState Spot). Comes loaded z (served_state r) (picks_of_serves (image_of code (middle code s x)) vs (swept_first code (middle code s x) x)) (λ turns. []) (served_ids vs)) (sym home_is) both) in (
             who.thread,
             who.is,
             subst (λ (l : Limits). UpToAKind p (journal_picks log ++ picks_of_serves (image_of code (middle code s x)) vs (swept_first code (middle code s x) x)) (λ u. StandsBy (linear_image code l) p (ids_told log ++ served_ids vs) u (served_state r) × (TakesRightKinds p u v.thread → ServeStays (linear_image code l) p (ids_told log ++ served_ids vs) u (served_state r) v who.thread))) (sym limits)
@@ -126,7 +126,7 @@ module _ (p : Ir) (code : LinearCode) (s : Settings) (program : IsProgram code)
           )
 
   -- what holds of the allocations that are served, where this is the state behind the event's first entry
-  pub record Serves (next : State Shared Context) : Type 0 where
+  pub record Serves (next : RunState Shared Context) : Type 0 where
     pub alone : none_out (machine_of code) (rules_of s) x ≡ true
     pub memory : let y = image_of code (middle code s x) in
         next.shared.memory ≡ (served_state (after_serves y (sweep_serves y (at_home (middle code s x) (homes_of x.places))) (swept_first code (middle code s x) x))).memory
@@ -137,11 +137,11 @@ module _ (p : Ir) (code : LinearCode) (s : Settings) (program : IsProgram code)
         × (TakesRightKinds p u v.thread → ServeStays y p (ids_told log ++ served_ids vs) u (served_state (after_serves y vs (swept_first code (middle code s x) x))) v q))
 
   -- a barrier's entry, or its evacuation's, that begins an event
-  pub serves_here : (e : Entry) (next : State Shared Context) → e.kind ≡ kind.barrier → IsFirst (machine_of code) (rules_of s) x e next → Serves next
+  pub serves_here : (e : Entry) (next : RunState Shared Context) → e.kind ≡ kind.barrier → IsFirst (machine_of code) (rules_of s) x e next → Serves next
   serves_here e next is f =
       let sweep : Sweeps (machine_of code) (rules_of s) x e.worker f.v = subst (Holds (machine_of code) (rules_of s) x e.worker (SweepsIf (machine_of code) (rules_of s) x e.worker)) f.event (event_holds (machine_of code) (rules_of s) x e.worker (SweepsIf (machine_of code) (rules_of s) x e.worker) (sweeps_if (machine_of code) (rules_of s) x e.worker) e.kind e.thread) f.d f.ds f.entries (sym (same_kind e f.d f.same) ∙ is) in
       record {
         alone = sweep.alone;
-        memory = ap (λ (z : State Shared Context). z.shared.memory) f.is ∙ ap (λ (v : Event Shared Context). v.after.shared.memory) sweep.is;
+        memory = ap (λ (z : RunState Shared Context). z.shared.memory) f.is ∙ ap (λ (v : Event Shared Context). v.after.shared.memory) sweep.is;
         keeps = stays (same_number _ 0 sweep.alone);
       }

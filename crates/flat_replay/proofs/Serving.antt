@@ -14,7 +14,7 @@ use Rattle.struct_ir.specs.ValidCode.{code_scope_of, is_here}
 use Rattle.flat_meaning.specs.Accesses.{Choice, Fault, went}
 use Rattle.flat_meaning.specs.Effects as effects
 use Rattle.flat_meaning.specs.Effects.{Effect, own_list_of, serve_effect}
-use Rattle.flat_meaning.specs.Events.{State, Serve, after_serve, after_serves, new_stages, put, put_if}
+use Rattle.flat_meaning.specs.Events.{MachineState, Serve, after_serve, after_serves, new_stages, put, put_if}
 use Rattle.flat_meaning.specs.Image.{Image}
 use Rattle.flat_meaning.specs.Machine.{served_by, words_machine, words_world}
 use Rattle.flat_meaning.specs.Memory.{Made, Memory}
@@ -68,8 +68,8 @@ module _ (x : Image Spot) (k : ℕ) (t : Thread Spot Words) (m : Memory) where
   -- what comes of a step with this choice is a turn, behind which the barrier still serves
   record ComesAsTurn (c : Choice) (h : Here) (o : Outcome Spot Words Fault Memory) : Type 0 where
     pub picks : pick_if k (answer_here x m c h) o ≡ pick k (choice_answer c) ∷ []
-    pub heaps : SameHeaps m (effects.acted k (waiting t) t (own_list_of h) m o).memory
-    pub serves : is_some (effects.acted k (waiting t) t (own_list_of h) m o).memory.leaving ≡ true
+    pub heaps : SameHeaps m (effects.effect_of_outcome k (waiting t) t (own_list_of h) m o).memory
+    pub serves : is_some (effects.effect_of_outcome k (waiting t) t (own_list_of h) m o).memory.leaving ≡ true
 
   abbrev IsTurn : Choice → Here → Type 0
   IsTurn c h = ComesAsTurn c h (outcome_here c h)
@@ -112,17 +112,17 @@ module _ (code : LinearCode) (program : IsProgram code) (sh : Shared) where
 
   module _ (first : List (Option (Stage Spot))) (count : ℕ) (each : (k : ℕ) (stage : Stage Spot) → own_at first k ≡ Some stage → IsStageOf code stage) where
     -- threads from one on have not had their turn, and the barrier serves
-    pub record AreLeft (n : ℕ) (st : State Spot) : Type 0 where
+    pub record AreLeft (n : ℕ) (st : MachineState Spot) : Type 0 where
       pub serves_on : is_some st.memory.leaving ≡ true
       pub long : count ≤ length st.own
       pub later : (k : ℕ) → n ≤ k → k < count → own_at st.own k ≡ own_at first k
 
-    record Says (n : ℕ) (vs : List Serve) (st : State Spot) : Type 0 where
+    record Says (n : ℕ) (vs : List Serve) (st : MachineState Spot) : Type 0 where
       pub picks : picks_of_serves x vs st ≡ map serve_pick vs
       pub heaps : SameHeaps st.memory (after_serves x vs st).memory
       pub left : AreLeft n (after_serves x vs st)
 
-    idle : (n : ℕ) (st : State Spot) → AreLeft n st → Says (n + 1) [] st
+    idle : (n : ℕ) (st : MachineState Spot) → AreLeft n st → Says (n + 1) [] st
     idle n st left = record { picks = refl; heaps = same_heaps st.memory; left = record { serves_on = left.serves_on; long = left.long; later = λ k le lt. left.later k (omega (arith, le)) lt } }
 
     own_at-front : {A : Type 0} (own more : List (Option A)) (k : ℕ) → k < length own → own_at (own ++ more) k ≡ own_at own k
@@ -130,26 +130,26 @@ module _ (code : LinearCode) (program : IsProgram code) (sh : Shared) where
     own_at-front (o ∷ own) more zero below = refl
     own_at-front (o ∷ own) more (suc k) below = own_at-front own more k (omega (arith, below))
 
-    put_left : (n : ℕ) (st : State Spot) (e : Effect Spot) → AreLeft n st → is_some e.memory.leaving ≡ true → AreLeft (n + 1) (put st n e)
+    put_left : (n : ℕ) (st : MachineState Spot) (e : Effect Spot) → AreLeft n st → is_some e.memory.leaving ≡ true → AreLeft (n + 1) (put st n e)
     put_left n st e left some = record {
       serves_on = some;
       long = omega (arith, left.long, length-set st.own n e.stage, length-append (set st.own n e.stage) (new_stages st.own e.memory));
       later = λ k le lt. own_at-front (set st.own n e.stage) (new_stages st.own e.memory) k (omega (arith, lt, left.long, length-set st.own n e.stage)) ∙ own_at_set-later st.own n k e.stage (omega (arith, le)) ∙ left.later k (omega (arith, le)) lt;
     }
 
-    serves : (n : ℕ) (st : State Spot) → AreLeft n st → (t : Thread Spot Words) → own_at st.own n ≡ Some (waiting t) → IsThreadOf code t → is_allocation (x.flow.here t.top.at) ≡ true → Says (n + 1) (serve_of x st n (waiting t) ∷ []) st
+    serves : (n : ℕ) (st : MachineState Spot) → AreLeft n st → (t : Thread Spot Words) → own_at st.own n ≡ Some (waiting t) → IsThreadOf code t → is_allocation (x.flow.here t.top.at) ≡ true → Says (n + 1) (serve_of x st n (waiting t) ∷ []) st
     serves n st left t own all is =
         let v : Serve = serve_of x st n (waiting t) in
         let turn = turn_here st.memory n t all is left.serves_on in
         let after_is : after_serve x st v ≡ put st n (serve_effect x n v.choice (waiting t) st.memory) = ap (put_if st n (serve_effect x n v.choice)) own in
         record {
           picks = append-nil (picks_of_serve x st.memory v (own_at st.own n)) ∙ ap (picks_of_serve x st.memory v) own ∙ turn.picks;
-          heaps = subst (λ (z : State Spot). SameHeaps st.memory z.memory) (sym after_is) turn.heaps;
+          heaps = subst (λ (z : MachineState Spot). SameHeaps st.memory z.memory) (sym after_is) turn.heaps;
           left = subst (AreLeft (n + 1)) (sym after_is) (put_left n st (serve_effect x n v.choice (waiting t) st.memory) left turn.serves);
         }
 
     -- one thread's turn, by its stage
-    turn_at : (n : ℕ) (st : State Spot) → AreLeft n st → (o : Option (Stage Spot)) → own_at st.own n ≡ o → ((stage : Stage Spot) → o ≡ Some stage → IsStageOf code stage) → Says (n + 1) (serves_if x st n o) st
+    turn_at : (n : ℕ) (st : MachineState Spot) → AreLeft n st → (o : Option (Stage Spot)) → own_at st.own n ≡ o → ((stage : Stage Spot) → o ≡ Some stage → IsStageOf code stage) → Says (n + 1) (serves_if x st n o) st
     turn_at n st left None own is = idle n st left
     turn_at n st left (Some (starts function argument)) own is = idle n st left
     turn_at n st left (Some (going t)) own is = idle n st left
@@ -159,25 +159,25 @@ module _ (code : LinearCode) (program : IsProgram code) (sh : Shared) where
       by true e = serves n st left t own (is (waiting t) refl) e
       by false e = idle n st left
 
-    picks-append : (vs ws : List Serve) (st : State Spot) → picks_of_serves x (vs ++ ws) st ≡ picks_of_serves x vs st ++ picks_of_serves x ws (after_serves x vs st)
+    picks-append : (vs ws : List Serve) (st : MachineState Spot) → picks_of_serves x (vs ++ ws) st ≡ picks_of_serves x vs st ++ picks_of_serves x ws (after_serves x vs st)
     picks-append [] ws st = refl
     picks-append (v ∷ vs) ws st =
         ap (λ (ps : List Pick). picks_of_serve x st.memory v (own_at st.own v.thread) ++ ps) (picks-append vs ws (after_serve x st v))
         ∙ sym (append_assoc (picks_of_serve x st.memory v (own_at st.own v.thread)) (picks_of_serves x vs (after_serve x st v)) (picks_of_serves x ws (after_serves x vs (after_serve x st v))))
 
-    pub all_say : (more n : ℕ) (st : State Spot) → n + more ≡ count → AreLeft n st → (picks_of_serves x (serves_from x (range_with_len n more) st) st ≡ map serve_pick (serves_from x (range_with_len n more) st)) × SameHeaps st.memory (after_serves x (serves_from x (range_with_len n more) st) st).memory
+    pub all_say : (more n : ℕ) (st : MachineState Spot) → n + more ≡ count → AreLeft n st → (picks_of_serves x (serves_from x (range_with_len n more) st) st ≡ map serve_pick (serves_from x (range_with_len n more) st)) × SameHeaps st.memory (after_serves x (serves_from x (range_with_len n more) st) st).memory
     all_say zero n st e left = (refl, same_heaps st.memory)
     all_say (suc more) n st e left =
         let here : Says (n + 1) (serves_if x st n (own_at st.own n)) st = turn_at n st left (own_at st.own n) refl (λ stage is. each n stage (sym (left.later n (omega arith) (omega (arith, e))) ∙ is)) in
         let vs : List Serve = serves_if x st n (own_at st.own n) in
-        let next : State Spot = after_serves x vs st in
+        let next : MachineState Spot = after_serves x vs st in
         let ws : List Serve = serves_from x (range_with_len (n + 1) more) next in
         let rest = all_say more (n + 1) next (omega (arith, e)) here.left in (
           picks-append vs ws st ∙ ap (λ (ps : List Pick). ps ++ picks_of_serves x ws next) here.picks ∙ ap (λ (ps : List Pick). map serve_pick vs ++ ps) rest.0 ∙ sym (map-append serve_pick vs ws),
-          subst (λ (z : State Spot). SameHeaps st.memory z.memory) (sym (after_serves-append x vs ws st)) (more_heaps st.memory next.memory (after_serves x ws next).memory here.heaps rest.1),
+          subst (λ (z : MachineState Spot). SameHeaps st.memory z.memory) (sym (after_serves-append x vs ws st)) (more_heaps st.memory next.memory (after_serves x ws next).memory here.heaps rest.1),
         )
 
-    pub from_first : (st : State Spot) → st.own ≡ first → count ≡ length first → is_some st.memory.leaving ≡ true → AreLeft 0 st
+    pub from_first : (st : MachineState Spot) → st.own ≡ first → count ≡ length first → is_some st.memory.leaving ≡ true → AreLeft 0 st
     from_first st own long some = record { serves_on = some; long = omega (arith, long, ap length own); later = λ k le lt. ap (λ (os : List (Option (Stage Spot))). own_at os k) own }
 
 -- ---- stages at home are of the program

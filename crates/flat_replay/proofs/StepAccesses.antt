@@ -18,7 +18,7 @@ use Rattle.struct_ir.specs.meaning.Threads.{program_of}
 use Rattle.ak_trace.specs.declared.endings.End.{End}
 use Rattle.flat_meaning.specs.Accesses.{Choice}
 use Rattle.flat_meaning.specs.Allowed.{AreAllowed, IsAllowed, MayAct, MayServe, MayServeAll, MayStep, MayStepAt, StandsBefore}
-use Rattle.flat_meaning.specs.Events.{State, Serve, Event, act, after_all, after_serve, after_serves, end_or, first_state, put_if, served_state}
+use Rattle.flat_meaning.specs.Events.{MachineState, Serve, Event, act, after_all, after_serve, after_serves, end_or, first_state, put_if, served_state}
 use Rattle.flat_meaning.specs.Effects.{serve_effect}
 use Rattle.flat_meaning.specs.Image.{Image}
 use Rattle.flat_meaning.specs.Machine.{words_machine, words_world}
@@ -44,7 +44,7 @@ all_first P xs ys h k d below = subst P (get_or_append_left xs ys d k below) (h 
 
 module _ (y : Image Spot) where
   -- a barrier that serves but the first of these allocations may come, too; and then the others may be served
-  pub serves_front : (vs ws : List Serve) (s : State Spot) → MayServeAll y (vs ++ ws) s → MayServeAll y vs s × MayServeAll y ws (after_serves y vs s)
+  pub serves_front : (vs ws : List Serve) (s : MachineState Spot) → MayServeAll y (vs ++ ws) s → MayServeAll y vs s × MayServeAll y ws (after_serves y vs s)
   serves_front [] ws s may = (tt, may)
   serves_front (v ∷ vs) ws s may = let r = serves_front vs ws (after_serve y s v) may.1 in ((may.0, r.0), r.1)
 
@@ -53,11 +53,11 @@ module _ (y : Image Spot) where
   none_now None past e = e
   none_now (Some end) past e = absurd cc
 
-  put_on : (s : State Spot) (v : Serve) (o : Option (Stage Spot)) → (put_if s v.thread (serve_effect y v.thread v.choice) o).end ≡ None → s.end ≡ None
+  put_on : (s : MachineState Spot) (v : Serve) (o : Option (Stage Spot)) → (put_if s v.thread (serve_effect y v.thread v.choice) o).end ≡ None → s.end ≡ None
   put_on s v None e = e
   put_on s v (Some stage) e = none_now (serve_effect y v.thread v.choice stage s.memory).end s.end e
 
-  pub serves_on : (vs : List Serve) (s : State Spot) → (after_serves y vs s).end ≡ None → s.end ≡ None
+  pub serves_on : (vs : List Serve) (s : MachineState Spot) → (after_serves y vs s).end ≡ None → s.end ≡ None
   serves_on [] s e = e
   serves_on (v ∷ vs) s e = put_on s v (own_at s.own v.thread) (serves_on vs (after_serve y s v) e)
 
@@ -79,13 +79,13 @@ module _ (y : Image Spot) where
   served_steps m choice q may = malloc_before q.callers (y.flow.here q.top.at) may.0
 
   -- while allocations are served, the old objects of reallocs are live
-  pub serving_all : (vs : List Serve) (s : State Spot) → IsServing s → MayServeAll y vs s → IsServing (after_serves y vs s)
+  pub serving_all : (vs : List Serve) (s : MachineState Spot) → IsServing s → MayServeAll y vs s → IsServing (after_serves y vs s)
   serving_all [] s serving may = serving
   serving_all (v ∷ vs) s serving may =
       let who = waits_there s.memory v.choice (own_at s.own v.thread) may.0 in
       serving_all vs (after_serve y s v) (serving_on y s serving v who.thread who.is who.may.0 who.may.2) may.1
 
-  module _ (p : Ir) (ds : List Event) (given : List ℕ) (u : runs.State (Thread Position Own)) (s : State Spot) (f : LinearStandsAfter y p ds u s) (ids : ids_of ds ≡ given) where
+  module _ (p : Ir) (ds : List Event) (given : List ℕ) (u : runs.State (Thread Position Own)) (s : MachineState Spot) (f : LinearStandsAfter y p ds u s) (ids : ids_of ds ≡ given) where
     abbrev stands_by : s.end ≡ None → StandsBy y p given u s
     stands_by open_ = record { names = f.names; loaded = f.made.loaded; ids = f.made.ids ∙ ids; world = f.world; stacks = f.stacks open_ }
 
@@ -109,9 +109,9 @@ module _ (y : Image Spot) where
     }
 
   -- an allocation that may be served next, in the state that the barrier leaves where it serves those before alone
-  module _ (p : Ir) (ds : List Event) (given : List ℕ) (u : runs.State (Thread Position Own)) (r : State Spot) (f : LinearStandsAfter y p ds u (served_state r)) (ids : ids_of ds ≡ given) (fits : AllocationsFit y.flow) (serving : IsServing r)
+  module _ (p : Ir) (ds : List Event) (given : List ℕ) (u : runs.State (Thread Position Own)) (r : MachineState Spot) (f : LinearStandsAfter y p ds u (served_state r)) (ids : ids_of ds ≡ given) (fits : AllocationsFit y.flow) (serving : IsServing r)
       (v : Serve) (q : Thread Spot Words) (open_ : r.end ≡ None) (at : own_at r.own v.thread ≡ Some (waiting q)) (may : MayServe y r.memory v.choice (Some (waiting q))) (right : TakesRightKinds p u v.thread) where
-    abbrev s : State Spot
+    abbrev s : MachineState Spot
     s = served_state r
 
     abbrev left : Storage
@@ -179,11 +179,11 @@ module _ (y : Image Spot) where
     }
 
   module _ (p : Ir) (follows : (es : List Event) → AreAllowed y es (first_state y) → UpToAKind p (order_of y es (first_state y)) (λ u. LinearStandsAfter y p es u (after_all y es (first_state y))))
-      (r : State Spot) (picks : List Pick) (tries : ℕ → List (ℕ × ℕ)) (given : List ℕ) (c : Comes y (first_state y) r picks tries given) where
+      (r : MachineState Spot) (picks : List Pick) (tries : ℕ → List (ℕ × ℕ)) (given : List ℕ) (c : Comes y (first_state y) r picks tries given) where
     there : UpToAKind p picks (λ u. LinearStandsAfter y p c.events u r)
     there =
         subst (λ (o : List Pick). UpToAKind p o (λ u. LinearStandsAfter y p c.events u r)) c.order
-        (subst (λ (z : State Spot). UpToAKind p (order_of y c.events (first_state y)) (λ u. LinearStandsAfter y p c.events u z)) c.after (follows c.events c.allowed))
+        (subst (λ (z : MachineState Spot). UpToAKind p (order_of y c.events (first_state y)) (λ u. LinearStandsAfter y p c.events u z)) c.after (follows c.events c.allowed))
 
     -- what holds so of a state that follows
     there_so : (A : runs.State (Thread Position Own) → Type 0) → ((u : runs.State (Thread Position Own)) → LinearStandsAfter y p c.events u r → A u) → UpToAKind p picks A
@@ -198,7 +198,7 @@ module _ (y : Image Spot) where
         (λ u f. (stands_by p c.events given u r f c.ids may.0, λ right. act_stays p c.events given u r f c.ids thread right choice stage at may))
 
   module _ (p : Ir) (follows : (es : List Event) → AreAllowed y es (first_state y) → UpToAKind p (order_of y es (first_state y)) (λ u. LinearStandsAfter y p es u (after_all y es (first_state y)))) (fits : AllocationsFit y.flow)
-      (r : State Spot) (serving : IsServing r) (picks : List Pick) (tries : ℕ → List (ℕ × ℕ)) (given : List ℕ) (c : Comes y (first_state y) (served_state r) picks tries given) where
+      (r : MachineState Spot) (serving : IsServing r) (picks : List Pick) (tries : ℕ → List (ℕ × ℕ)) (given : List ℕ) (c : Comes y (first_state y) (served_state r) picks tries given) where
     pub run_serve_stays : (v : Serve) (q : Thread Spot Words) → r.end ≡ None → own_at r.own v.thread ≡ Some (waiting q) → MayServe y r.memory v.choice (Some (waiting q))
         → UpToAKind p picks (λ u. StandsBy y p given u (served_state r) × (TakesRightKinds p u v.thread → ServeStays y p given u (served_state r) v q))
     run_serve_stays v q open_ at may =

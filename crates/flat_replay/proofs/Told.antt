@@ -24,7 +24,7 @@ use Rattle.flat_rules.specs.Events.{Goes, on, back, away, ends_with, goes, turn_
 use Rattle.flat_rules.specs.Lawful.{Lives}
 use Rattle.flat_rules.specs.Machine.{Turned}
 use Rattle.flat_rules.specs.Rules.{Rules}
-use Rattle.flat_rules.specs.States.{Place, unbegun, home, out, gone, State, Mood, place_at}
+use Rattle.flat_rules.specs.States.{Place, unbegun, home, out, gone, RunState, Mood, place_at}
 use Rattle.flat_threads.specs.Belonging.{HasStopped, IsContextOf}
 use Rattle.flat_threads.specs.Contexts.{Context, IsProgram, own_image}
 use Rattle.flat_threads.specs.Waits.{waits_at}
@@ -54,19 +54,19 @@ use Rattle.flat_replay.proofs.Turned.{TurnSays, turn_says}
 -- ---- what a journal has told so far
 
 -- a state of the machine stands for one of the replay
-pub record StandsIn (st : events.State Spot) (x : State Shared Context) : Type 0 where
+pub record StandsIn (st : events.MachineState Spot) (x : RunState Shared Context) : Type 0 where
   pub memory : st.memory ≡ x.shared.memory
   pub ending : st.end ≡ x.ending
   pub stages : x.ending ≡ None → st.own ≡ stages_in x
 
 -- the state of the machine in which each thread is where its context says
-abbrev pub standing_in : State Shared Context → events.State Spot
+abbrev pub standing_in : RunState Shared Context → events.MachineState Spot
 standing_in x = record { memory = x.shared.memory; own = stages_in x; end = None }
 
 module _ (code : LinearCode) where
   -- these entries are of events from one state of the replay to another
-  pub record Goes_on (x y : State Shared Context) (es : List Entry) : Type 0 where
-    pub state : events.State Spot
+  pub record Goes_on (x y : RunState Shared Context) (es : List Entry) : Type 0 where
+    pub state : events.MachineState Spot
     pub picks : List Pick
     pub tries : ℕ → List (ℕ × ℕ)
     pub given : List ℕ
@@ -82,20 +82,20 @@ module _ (code : LinearCode) (limits : Limits) where
   loaded = linear_image code limits
 
   -- the events from the start on
-  pub record Told (log : List Entry) (x : State Shared Context) : Type 0 where
-    pub state : events.State Spot
+  pub record Told (log : List Entry) (x : RunState Shared Context) : Type 0 where
+    pub state : events.MachineState Spot
     pub comes : Comes loaded (first_state loaded) state (journal_picks log) (λ turns. attempts_from turns log) (ids_told log)
     pub stands : StandsIn state x
     pub same : limits_of x.shared ≡ limits
 
-  recast : (s t : events.State Spot) (p p2 : List Pick) (q q2 : ℕ → List (ℕ × ℕ)) (g g2 : List ℕ) → p ≡ p2 → ((turns : ℕ) → q turns ≡ q2 turns) → g ≡ g2 → Comes loaded s t p q g → Comes loaded s t p2 q2 g2
+  recast : (s t : events.MachineState Spot) (p p2 : List Pick) (q q2 : ℕ → List (ℕ × ℕ)) (g g2 : List ℕ) → p ≡ p2 → ((turns : ℕ) → q turns ≡ q2 turns) → g ≡ g2 → Comes loaded s t p q g → Comes loaded s t p2 q2 g2
   recast s t p p2 q q2 g g2 e f i c = record { events = c.events; allowed = c.allowed; after = c.after; order = c.order ∙ e; attempts = λ turns. c.attempts turns ∙ f turns; ids = c.ids ∙ i }
 
-  pub told_more : (log es : List Entry) (x y : State Shared Context) → x.ending ≡ None → Told log x → Goes_on code x y es → Told (log ++ es) y
+  pub told_more : (log es : List Entry) (x y : RunState Shared Context) → x.ending ≡ None → Told log x → Goes_on code x y es → Told (log ++ es) y
   told_more log es x y going told g =
       let here_is : standing_in x ≡ told.state = λ i. record { memory = sym told.stands.memory i; own = sym (told.stands.stages going) i; end = sym (told.stands.ending ∙ going) i } in
       let one : Comes loaded (standing_in x) g.state g.picks g.tries g.given = subst (λ (limits : Limits). Comes (linear_image code limits) (standing_in x) g.state g.picks g.tries g.given) told.same g.comes in
-      let two : Comes loaded told.state g.state g.picks g.tries g.given = subst (λ (z : events.State Spot). Comes loaded z g.state g.picks g.tries g.given) here_is one in
+      let two : Comes loaded told.state g.state g.picks g.tries g.given = subst (λ (z : events.MachineState Spot). Comes loaded z g.state g.picks g.tries g.given) here_is one in
       let all = joins loaded (first_state loaded) told.state g.state (journal_picks log) g.picks (λ turns. attempts_from turns log) g.tries (ids_told log) g.given told.comes two in
       record {
         state = g.state;
@@ -114,7 +114,7 @@ same_limits output m after h = λ i. limits_for output (h.count i) (h.size i) (h
 
 -- ---- a thread's turn
 
-module _ (code : LinearCode) (program : IsProgram code) (rules : Rules) (x : State Shared Context) (going : x.ending ≡ None) (few : length x.shared.memory.threads ≤ 64) (many : length x.places ≡ 64)
+module _ (code : LinearCode) (program : IsProgram code) (rules : Rules) (x : RunState Shared Context) (going : x.ending ≡ None) (few : length x.shared.memory.threads ≤ 64) (many : length x.places ≡ 64)
     (sits : (k : ℕ) → SitsAt (machine_of code) (IsContextOf code) x.shared None k (place_at x.places k)) where
   abbrev image : Image Spot
   image = image_of code x.shared
@@ -157,10 +157,10 @@ module _ (code : LinearCode) (program : IsProgram code) (rules : Rules) (x : Sta
     abbrev os : List (Option (Stage Spot))
     os = set (stages_in x) n (Some stage)
 
-    abbrev moved : events.State Spot
+    abbrev moved : events.MachineState Spot
     moved = record { memory = x.shared.memory; own = set (stages_in x) n (Some stage); end = None }
 
-    abbrev behind : events.State Spot
+    abbrev behind : events.MachineState Spot
     behind = put moved n e
 
     module _ (lives : Lives (machine_of code) (IsSharedOf code) (IsContextOf code) x.shared d) where

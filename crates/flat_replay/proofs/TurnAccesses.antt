@@ -22,7 +22,7 @@ use Rattle.flat_rules.specs.Events.{Event, most_local, goes, turn_event, turned_
 use Rattle.flat_rules.specs.Machine.{Turned, cleared}
 use Rattle.flat_rules.specs.Replays.{step}
 use Rattle.flat_rules.specs.Rules.{Rules, rules_of}
-use Rattle.flat_rules.specs.States.{Mood, free, asked, State, out, homes_of, place_at, waits_for_room}
+use Rattle.flat_rules.specs.States.{Mood, free, asked, RunState, out, homes_of, place_at, waits_for_room}
 use Rattle.flat_rules.specs.inner.Cases.{Cases, Holds, event_holds}
 use Rattle.flat_rules.specs.inner.Steps.{step_cases, same_kind}
 use Rattle.flat_rules.proofs.Spares.{sweep_first}
@@ -51,7 +51,7 @@ use Rattle.flat_replay.proofs.Told.{StandsIn, Told, own_there, says, standing_in
 
 -- ---- which event a turn's entry is
 
-module _ (code : LinearCode) (rules : Rules) (x : State Shared Context) (w : ℕ) where
+module _ (code : LinearCode) (rules : Rules) (x : RunState Shared Context) (w : ℕ) where
   -- the event is a turn of a thread that is out
   pub record IsTurn (v : Event Shared Context) : Type 0 where
     pub thread : ℕ
@@ -83,7 +83,7 @@ module _ (code : LinearCode) (rules : Rules) (x : State Shared Context) (w : ℕ
 module _ (p : Ir) (code : LinearCode) (s : Settings) (program : IsProgram code)
     (follows : (es : List events.Event) → AreAllowed (image_for code s) es (first_state (image_for code s))
     → UpToAKind p (order_of (image_for code s) es (first_state (image_for code s))) (λ u. LinearStandsAfter (image_for code s) p es u (after_all (image_for code s) es (first_state (image_for code s)))))
-    (log : List Entry) (x : State Shared Context) (leads : replay code s log ≡ Some x) (good : Good code (rules_of s) x) (told : Told code (settings_limits s) log x) (going : x.ending ≡ None) where
+    (log : List Entry) (x : RunState Shared Context) (leads : replay code s log ≡ Some x) (good : Good code (rules_of s) x) (told : Told code (settings_limits s) log x) (going : x.ending ≡ None) where
   abbrev loaded : Image Spot
   loaded = image_for code s
 
@@ -92,7 +92,7 @@ module _ (p : Ir) (code : LinearCode) (s : Settings) (program : IsProgram code)
     abbrev came : Came Spot
     came = g.came
 
-    abbrev moved : events.State Spot
+    abbrev moved : events.MachineState Spot
     moved = gone_to x c.number g.came.stage
 
     abbrev its_events : List events.Event
@@ -128,7 +128,7 @@ module _ (p : Ir) (code : LinearCode) (s : Settings) (program : IsProgram code)
         subst (λ (limits : Limits). Comes (linear_image code limits) (standing_in x) moved (replicate g.goes.did (pick c.number answers.Plain)) (λ turns. []) []) told.same g.goes.comes in
         let two : Comes loaded told.state moved (replicate g.came.turns (pick c.number answers.Plain)) (λ turns. []) [] =
         subst (λ (k : ℕ). Comes loaded told.state moved (replicate k (pick c.number answers.Plain)) (λ turns. []) []) ends
-        (subst (λ (z : events.State Spot). Comes loaded z moved (replicate g.goes.did (pick c.number answers.Plain)) (λ turns. []) []) here_is one) in
+        (subst (λ (z : events.MachineState Spot). Comes loaded z moved (replicate g.goes.did (pick c.number answers.Plain)) (λ turns. []) []) here_is one) in
         subst (λ (ids : List ℕ). Comes loaded (first_state loaded) moved its_picks (λ turns. attempts_from turns log ++ []) ids) (append-nil (ids_told log))
         (joins loaded (first_state loaded) told.state moved _ _ (λ turns. attempts_from turns log) (λ turns. []) (ids_told log) [] told.comes two)
 
@@ -141,13 +141,13 @@ module _ (p : Ir) (code : LinearCode) (s : Settings) (program : IsProgram code)
         (run_act_stays loaded p follows moved its_picks _ (ids_told log) so_far c.number choice g.came.stage own may_loaded)
 
     -- the state behind it
-    abbrev pub behind : State Shared Context
+    abbrev pub behind : RunState Shared Context
     behind = let a = acted_by code x.shared (stopped_at c (Some g.came)) in turned_by (machine_of code) (rules_of s) x w c.number (n + 1) mood a (goes a.turned)
 
     stands : StandsIn (events.put moved c.number (effect_if (image_of code x.shared) c.number x.shared.memory (Some g.came.stage) (Some g.came.stop))) behind
     stands = stands_by code program (rules_of s) x going good.held.few good.held.places (sits code (rules_of s) program x good going w) c.number g.came.turns g.came.stage g.came.stop c.wait w n c mood g.there g.lives (n + 1) _ refl
 
-    pub turn_stays : (next : State Shared Context) (ds : List Entry) (spare : ℕ) → next ≡ record behind { due = ds; spare = spare } → step (machine_of code) (rules_of s) x entry ≡ Some next → TurnStaysUpToAKind p code s log entry
+    pub turn_stays : (next : RunState Shared Context) (ds : List Entry) (spare : ℕ) → next ≡ record behind { due = ds; spare = spare } → step (machine_of code) (rules_of s) x entry ≡ Some next → TurnStaysUpToAKind p code s log entry
     turn_stays next ds spare is st = record {
       here = x;
       leads = leads;
@@ -162,14 +162,14 @@ module _ (p : Ir) (code : LinearCode) (s : Settings) (program : IsProgram code)
       alone = ap (λ (o : Option (Came Spot)). (stopped_at c o).turns) g.is;
       next = next;
       goes = st;
-      memory = ap (λ (z : State Shared Context). z.shared.memory) is ∙ sym stands.memory ∙ ap (λ (z : events.State Spot). z.memory) (sym its.after);
-      ending = ap (λ (z : State Shared Context). z.ending) is ∙ sym stands.ending ∙ ap (λ (z : events.State Spot). z.end) (sym its.after);
+      memory = ap (λ (z : RunState Shared Context). z.shared.memory) is ∙ sym stands.memory ∙ ap (λ (z : events.MachineState Spot). z.memory) (sym its.after);
+      ending = ap (λ (z : RunState Shared Context). z.ending) is ∙ sym stands.ending ∙ ap (λ (z : events.MachineState Spot). z.end) (sym its.after);
       turns = turn_picks w c.number g.came.turns turned ∙ ap (λ (ps : List Pick). replicate g.came.turns (pick c.number answers.Plain) ++ ps) (sym tells.order);
       keeps = act_keeps;
     }
 
   -- an entry of a turn
-  pub turn_here : (e : Entry) (next : State Shared Context) → e.kind ≡ kind.turn → step (machine_of code) (rules_of s) x e ≡ Some next → x.due ≡ [] → TurnStaysUpToAKind p code s log e
+  pub turn_here : (e : Entry) (next : RunState Shared Context) → e.kind ≡ kind.turn → step (machine_of code) (rules_of s) x e ≡ Some next → x.due ≡ [] → TurnStaysUpToAKind p code s log e
   turn_here e next is st none = step_cases (machine_of code) (rules_of s) x e next {R = TurnStaysUpToAKind p code s log e}
       (λ n. absurd (let z : [] ≡ n.d ∷ n.ds = sym none ∙ n.due in cc z))
       (λ f.

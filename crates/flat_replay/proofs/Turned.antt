@@ -23,14 +23,14 @@ use Rattle.flat_meaning.specs.Actions.{may_start}
 use Rattle.flat_meaning.specs.Effects as effects
 use Rattle.flat_meaning.specs.Effects.{Effect, act_before, act_effect, exit_of, no_effect}
 use Rattle.flat_meaning.specs.Events as events
-use Rattle.flat_meaning.specs.Events.{State, Event, act, stage_made}
+use Rattle.flat_meaning.specs.Events.{MachineState, Event, act, stage_made}
 use Rattle.flat_meaning.specs.Image.{Image}
 use Rattle.flat_meaning.specs.Local.{no_room_if, spent_if, stop_before}
 use Rattle.flat_meaning.specs.Local.{stop_at as stop_at_stage}
 use Rattle.flat_meaning.specs.Machine.{given, words_machine, words_world}
 use Rattle.flat_meaning.specs.Memory.{Made, Memory, beginning, ended_if, thread_ended, with_result}
 use Rattle.flat_meaning.specs.Order.{Attempt, action_answer, act_picks, answer_here, attempts_of, made_answer, order_of, pick, pick_if, picks_of_act, tried_answer, tried_at, tried_before, tried_if}
-use Rattle.flat_meaning.specs.Stages.{Before, Stage, before, before_here, before_return, calls, can_go, going, landed, looks, nothing, room_for, safe, starts, steps, thread_at, turn_over, waiting}
+use Rattle.flat_meaning.specs.Stages.{Before, Stage, before, before_here, before_return, calls, can_advance, going, landed, looks, nothing, room_for, safe, starts, steps, thread_at, turn_over, waiting}
 use Rattle.flat_meaning.specs.Start.{chosen_id, ids_of}
 use Rattle.flat_meaning.specs.Words.{Words, target_of, word_at}
 use Rattle.flat_rules.specs.Events.{away, ends_with, goes}
@@ -111,7 +111,7 @@ no_spent false e = cc
 
 -- ---- what is said of it
 
-pub record TurnSays (x : Image Spot) (s : State Spot) (n : ℕ) (es : List Event) (e : Effect Spot) (turned : turns.Turned) : Type 0 where
+pub record TurnSays (x : Image Spot) (s : MachineState Spot) (n : ℕ) (es : List Event) (e : Effect Spot) (turned : turns.Turned) : Type 0 where
   pub end_ : e.end ≡ ends_with n turned
   pub gone : goes turned ≡ away → ends_with n turned ≡ None → e.stage ≡ None
   pub heaps : SameHeaps s.memory e.memory
@@ -191,7 +191,7 @@ module _ (x : Image Spot) (n : ℕ) (m : Memory) where
     h = does place (step node)
 
     abbrev PartsOf : Outcome Spot Words Fault Memory → Type 0
-    PartsOf o = Parts x n m c h o (effects.acted n stage t (own_list node) m o) (outcome_turned x n m c h o)
+    PartsOf o = Parts x n m c h o (effects.effect_of_outcome n stage t (own_list node) m o) (outcome_turned x n m c h o)
 
     went_parts : GivesNone c node.action → (q : Thread Spot Words) (after : Memory) → SameHeaps m after → KeptThreads m.threads after.threads → PartsOf (went q after)
     went_parts none q after heaps threads =
@@ -259,7 +259,7 @@ module _ (code : LinearCode) (program : IsProgram code) (sh : Shared) (os : List
   abbrev m : Memory
   m = sh.memory
 
-  abbrev s : State Spot
+  abbrev s : MachineState Spot
   s = record { memory = sh.memory; own = os; end = None }
 
   abbrev t : Thread Spot Words
@@ -343,7 +343,7 @@ module _ (code : LinearCode) (program : IsProgram code) (sh : Shared) (os : List
           let word : ℕ = given t.top.own temp in
           let outcome : ended t.top.own (thread_ended m n word) ≡ outcome_here plain (returns temp) = sym (ap (λ callers. left_call x.flow (words_world x.layout n) plain t.top.own temp m callers) none) in
           from_parts plain (returns temp) _ _ here_is (ap before_return none) refl (leave_effect_is x n m temp stage inside here_is none) (leave_turned_is x n m temp stage inside here_is none)
-          (subst (λ (o : Outcome Spot Words Fault Memory). Parts x n m plain (returns temp) o (effects.acted n stage t None m (ended t.top.own (thread_ended m n word))) (turns.ended (value_of (slice_get (thread_ended m n word).threads n)))) outcome
+          (subst (λ (o : Outcome Spot Words Fault Memory). Parts x n m plain (returns temp) o (effects.effect_of_outcome n stage t None m (ended t.top.own (thread_ended m n word))) (turns.ended (value_of (slice_get (thread_ended m n word).threads n)))) outcome
           (record {
             end_ = exit_or n m.threads word below;
             gone = λ e f. refl;
@@ -390,8 +390,8 @@ module _ (code : LinearCode) (program : IsProgram code) (sh : Shared) (os : List
       let x : Image Spot = image_of code sh in
       let m : Memory = sh.memory in
       let stage : Stage Spot = starts function argument in
-      let full : can_go x stage ≡ false = no_room (can_go x stage) e in
-      let effect : cond (can_go x stage) (no_effect m stage) (effects.ends_run m stage (endings.StackLimit n)) ≡ effects.ends_run m stage (endings.StackLimit n) = ap (λ (b : Bool). cond b (no_effect m stage) (effects.ends_run m stage (endings.StackLimit n))) full in
+      let full : can_advance x stage ≡ false = no_room (can_advance x stage) e in
+      let effect : cond (can_advance x stage) (no_effect m stage) (effects.ends_run m stage (endings.StackLimit n)) ≡ effects.ends_run m stage (endings.StackLimit n) = ap (λ (b : Bool). cond b (no_effect m stage) (effects.ends_run m stage (endings.StackLimit n))) full in
       subst (λ (e : Effect Spot). TurnSays x (record { memory = m; own = os; end = None }) n (act n plain ∷ []) e turns.lacked_stack) (sym effect)
       (record {
         end_ = refl;

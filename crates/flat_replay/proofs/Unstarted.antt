@@ -9,12 +9,12 @@ use Rattle.block_store.specs.Runs.{Pick, own_at}
 use Rattle.struct_ir.specs.Linear.{Spot}
 use Rattle.struct_ir.specs.Threads.{Thread, Outcome, went, ended, blocked, broke, unfit}
 use Rattle.flat_meaning.specs.Accesses.{Choice, Fault, plain}
-use Rattle.flat_meaning.specs.Effects.{Effect, act_before, act_effect, acted, ends_run, gone_effect, landing, look_before, look_effect, no_effect, own_list_of, serve_effect, stop_of}
-use Rattle.flat_meaning.specs.Events.{State, Serve, Event, local, look, act, barrier, after, after_all, after_serve, after_serves, moved_state, new_stages, put, put_if, serving_state}
+use Rattle.flat_meaning.specs.Effects.{Effect, act_before, act_effect, effect_of_outcome, ends_run, gone_effect, landing, look_before, look_effect, no_effect, own_list_of, serve_effect, stop_of}
+use Rattle.flat_meaning.specs.Events.{MachineState, Serve, Event, local, look, act, barrier, after, after_all, after_serve, after_serves, moved_state, new_stages, put, put_if, serving_state}
 use Rattle.flat_meaning.specs.Image.{Image}
 use Rattle.flat_meaning.specs.Memory.{Memory}
 use Rattle.flat_meaning.specs.Order.{act_picks, answer_of, local_picks, order_of, pick, pick_if, picks_of, picks_of_act, picks_of_local, picks_of_serve, picks_of_serves}
-use Rattle.flat_meaning.specs.Stages.{Stage, starts, going, waiting, landed, Before, safe, looks, steps, calls, turn_over, nothing, before, can_go, gone, room_for}
+use Rattle.flat_meaning.specs.Stages.{Stage, starts, going, waiting, landed, Before, safe, looks, steps, calls, turn_over, nothing, before, can_advance, advanced, room_for}
 use Rattle.flat_meaning.specs.Words.{Words}
 use Rattle.flat_rules.specs.inner.Cases.{same_number}
 use Rattle.flat_replay.proofs.Owns.{own_below, own_other, own_put}
@@ -33,7 +33,7 @@ Apart n picks = All (λ (p : Pick). p.thread ≢ n) picks
 
 module _ (x : Image Spot) (n : ℕ) where
   -- its first function is before it, or it wasn't made yet
-  abbrev pub Unstarted : State Spot → Type 0
+  abbrev pub Unstarted : MachineState Spot → Type 0
   Unstarted s = IsFresh (own_at s.own n) ⊎ (length s.own ≤ n)
 
   -- ---- turns of another thread
@@ -58,7 +58,7 @@ module _ (x : Image Spot) (n : ℕ) where
 
     local_apart : (stage : Stage Spot) → Apart n (picks_of_local x thread (Some stage))
     local_apart stage =
-        test_apart (can_go x stage) (local_picks thread (gone x thread stage).turns) [] (test_apart ((gone x thread stage).turns == 0) [] (pick thread _ ∷ []) none_apart (one_apart _)) none_apart
+        test_apart (can_advance x stage) (local_picks thread (advanced x thread stage).turns) [] (test_apart ((advanced x thread stage).turns == 0) [] (pick thread _ ∷ []) none_apart (one_apart _)) none_apart
 
     before_apart : (m : Memory) (choice : Choice) (t : Thread Spot Words) (b : Before) → Apart n (act_picks x m thread choice t b)
     before_apart m choice t safe = none_apart
@@ -80,7 +80,7 @@ module _ (x : Image Spot) (n : ℕ) where
   landing_old None q h = h
   landing_old (Some list) q h = h
 
-  acted_old : (thread : ℕ) (stage : Stage Spot) (t : Thread Spot Words) (list : Option (List ℕ)) (m : Memory) (o : Outcome Spot Words Fault Memory) → (IsFresh (Some stage) → ⊥) → IsFresh (acted thread stage t list m o).stage → ⊥
+  acted_old : (thread : ℕ) (stage : Stage Spot) (t : Thread Spot Words) (list : Option (List ℕ)) (m : Memory) (o : Outcome Spot Words Fault Memory) → (IsFresh (Some stage) → ⊥) → IsFresh (effect_of_outcome thread stage t list m o).stage → ⊥
   acted_old thread stage t list m (went q m2) old h = landing_old list q h
   acted_old thread stage t list m (ended l m2) old h = h
   acted_old thread stage t list m blocked old h = h
@@ -137,10 +137,10 @@ module _ (x : Image Spot) (n : ℕ) where
 
   -- ---- back from behind an event
 
-  abbrev Back : State Spot → List Pick → Type 0
+  abbrev Back : MachineState Spot → List Pick → Type 0
   Back s picks = Unstarted s × Apart n picks
 
-  module _ (s : State Spot) (thread : ℕ) (stage : Stage Spot) (picks : List Pick) (e : Effect Spot) (at : own_at s.own thread ≡ Some stage) where
+  module _ (s : MachineState Spot) (thread : ℕ) (stage : Stage Spot) (picks : List Pick) (e : Effect Spot) (at : own_at s.own thread ≡ Some stage) where
     longer : length s.own ≤ length (set s.own thread e.stage ++ new_stages s.own e.memory)
     longer = omega (arith, length-append (set s.own thread e.stage) (new_stages s.own e.memory), length-set s.own thread e.stage)
 
@@ -176,7 +176,7 @@ module _ (x : Image Spot) (n : ℕ) where
   nobody : Apart n []
   nobody = All-nil (λ (p : Pick). p.thread ≢ n)
 
-  if_back : (s : State Spot) (thread : ℕ) (effect : Stage Spot → Memory → Effect Spot) (picks : Option (Stage Spot) → List Pick) → picks None ≡ []
+  if_back : (s : MachineState Spot) (thread : ℕ) (effect : Stage Spot → Memory → Effect Spot) (picks : Option (Stage Spot) → List Pick) → picks None ≡ []
       → ((stage : Stage Spot) → thread ≢ n → Apart n (picks (Some stage))) → ((stage : Stage Spot) → Says stage (picks (Some stage)) (effect stage s.memory))
       → (o : Option (Stage Spot)) → own_at s.own thread ≡ o → Unstarted (put_if s thread effect o) → Back s (picks o)
   if_back s thread effect picks none apart says None at later = (later, subst (Apart n) (sym none) nobody)
@@ -188,7 +188,7 @@ module _ (x : Image Spot) (n : ℕ) where
   serve_apart v m other (waiting t) = if_apart v.thread other (answer_of x m v.choice t) (stop_of x v.thread v.choice t m)
   serve_apart v m other (landed list t) = nobody
 
-  serves_back : (vs : List Serve) (s : State Spot) → Unstarted (after_serves x vs s) → Back s (picks_of_serves x vs s)
+  serves_back : (vs : List Serve) (s : MachineState Spot) → Unstarted (after_serves x vs s) → Back s (picks_of_serves x vs s)
   serves_back [] s later = (later, nobody)
   serves_back (v ∷ vs) s later =
       let rest : Back (after_serve x s v) (picks_of_serves x vs (after_serve x s v)) = serves_back vs (after_serve x s v) later in
@@ -196,17 +196,17 @@ module _ (x : Image Spot) (n : ℕ) where
       if_back s v.thread (serve_effect x v.thread v.choice) (picks_of_serve x s.memory v) refl (λ stage other. serve_apart v s.memory other stage) (serve_says v s.memory) (own_at s.own v.thread) refl rest.0 in
       (one.0, All-append (λ (p : Pick). p.thread ≢ n) (picks_of_serve x s.memory v (own_at s.own v.thread)) (picks_of_serves x vs (after_serve x s v)) one.1 rest.1)
 
-  event_back : (s : State Spot) (e : Event) → Unstarted (after x s e) → Back s (picks_of x s e)
+  event_back : (s : MachineState Spot) (e : Event) → Unstarted (after x s e) → Back s (picks_of x s e)
   event_back s (local thread) later =
       if_back s thread (gone_effect x thread) (picks_of_local x thread) refl (λ stage other. local_apart thread other stage)
-      (λ stage. local_says stage (going (gone x thread stage).thread) (local_picks thread (gone x thread stage).turns) s.memory (can_go x stage) (λ k. k)) (own_at s.own thread) refl later
+      (λ stage. local_says stage (going (advanced x thread stage).thread) (local_picks thread (advanced x thread stage).turns) s.memory (can_advance x stage) (λ k. k)) (own_at s.own thread) refl later
   event_back s (look thread) later = if_back s thread (look_effect x thread) (λ o. []) refl (λ stage other. nobody) (look_says thread s.memory) (own_at s.own thread) refl later
   event_back s (act thread choice) later =
       if_back s thread (act_effect x thread choice) (picks_of_act x s.memory thread choice) refl (λ stage other. act_apart thread other s.memory choice stage) (act_says thread choice s.memory) (own_at s.own thread) refl later
   event_back s (barrier moves served) later = serves_back served (serving_state (moved_state moves s)) later
 
   -- after events
-  pub unstarted : (ds : List Event) (s : State Spot) → Unstarted (after_all x ds s) → Back s (order_of x ds s)
+  pub unstarted : (ds : List Event) (s : MachineState Spot) → Unstarted (after_all x ds s) → Back s (order_of x ds s)
   unstarted [] s later = (later, nobody)
   unstarted (e ∷ ds) s later =
       let rest : Back (after x s e) (order_of x ds (after x s e)) = unstarted ds (after x s e) later in

@@ -12,12 +12,12 @@ use Rattle.flat_meaning.specs.Accesses as choices
 use Rattle.flat_meaning.specs.Accesses.{Choice, Done, Fault, is_plain, plain}
 use Rattle.flat_meaning.specs.Actions as actions
 use Rattle.flat_meaning.specs.Actions.{joined_if}
-use Rattle.flat_meaning.specs.Effects.{Effect, act_before, act_effect, acted, ends_run, gone_effect, landing, look_before, look_effect, no_effect, own_list_of, serve_effect, stop_of}
-use Rattle.flat_meaning.specs.Events.{State, Serve, Event, local, look as does_look, act, barrier, after, after_all, after_serve, after_serves, first_state, moved_state, serving_state, put_if, stage_made}
+use Rattle.flat_meaning.specs.Effects.{Effect, act_before, act_effect, effect_of_outcome, ends_run, gone_effect, landing, look_before, look_effect, no_effect, own_list_of, serve_effect, stop_of}
+use Rattle.flat_meaning.specs.Events.{MachineState, Serve, Event, local, look as does_look, act, barrier, after, after_all, after_serve, after_serves, first_state, moved_state, serving_state, put_if, stage_made}
 use Rattle.flat_meaning.specs.Image.{Image}
 use Rattle.flat_meaning.specs.Machine.{given, served_by, words_machine, words_world}
 use Rattle.flat_meaning.specs.Memory.{Made, Memory, beginning, ended_if, thread_ended, with_result}
-use Rattle.flat_meaning.specs.Stages.{Stage, starts, going, waiting, landed, Before, safe, looks, steps, calls, turn_over, nothing, before, can_go, gone, room_for}
+use Rattle.flat_meaning.specs.Stages.{Stage, starts, going, waiting, landed, Before, safe, looks, steps, calls, turn_over, nothing, before, can_advance, advanced, room_for}
 use Rattle.flat_meaning.specs.Words.{Target, Words, target_of, word_at}
 use Rattle.flat_threads.specs.Waits.{action_waits, waits_here}
 use Rattle.flat_threads.specs.declared.wait.Wait.{Wait}
@@ -98,7 +98,7 @@ module _ (x : Image Spot) where
       by (Some u) is e = there_is m.threads number u is
 
     -- a join waits for a thread that was made
-    action_waits_made : (a : Action) (ts : List Target) (ws : List ℕ) → actions.acted x.layout thread choice a ts ws m ≡ choices.waits → IsMade m.threads (action_waits a ts ws)
+    action_waits_made : (a : Action) (ts : List Target) (ws : List ℕ) → actions.acted_on_memory x.layout thread choice a ts ws m ≡ choices.waits → IsMade m.threads (action_waits a ts ws)
     action_waits_made (load how) ts ws e = tt
     action_waits_made (store how) ts ws e = tt
     action_waits_made (copy_bytes align eq) ts ws e = tt
@@ -122,7 +122,7 @@ module _ (x : Image Spot) where
     action_waits_made join (to ∷ []) (number ∷ w ∷ ws) e = tt
     action_waits_made join (to ∷ b ∷ ts) ws e = tt
 
-    done_comes : (h : Here) (a : Action) (ts : List Target) (ws : List ℕ) (l : Words) (to : Option ℕ) → waits_here t.top.own h ≡ action_waits a ts ws → (d : Done) → actions.acted x.layout thread choice a ts ws m ≡ d → Comes h (served x.flow t (served_by l to d))
+    done_comes : (h : Here) (a : Action) (ts : List Target) (ws : List ℕ) (l : Words) (to : Option ℕ) → waits_here t.top.own h ≡ action_waits a ts ws → (d : Done) → actions.acted_on_memory x.layout thread choice a ts ws m ≡ d → Comes h (served x.flow t (served_by l to d))
     done_comes h a ts ws l to is (choices.went None m2) e = are_more a x.layout.limits.threads m.threads m2.threads (threads_are x.layout thread m choice a ts ws None m2 e)
     done_comes h a ts ws l to is (choices.went (Some word) m2) e = are_more a x.layout.limits.threads m.threads m2.threads (threads_are x.layout thread m choice a ts ws (Some word) m2 e)
     done_comes h a ts ws l to is choices.waits e = subst (IsMade m.threads) (sym is) (action_waits_made a ts ws e)
@@ -155,14 +155,14 @@ module _ (x : Image Spot) where
     landing_made ts None q = tt
     landing_made ts (Some list) q = tt
 
-    acted_leaves : (stage : Stage Spot) (list : Option (List ℕ)) (o : Outcome Spot Words Fault Memory) → StageMade m.threads (Some stage) → Comes (x.flow.here t.top.at) o → Leaves m (acted thread stage t list m o)
+    acted_leaves : (stage : Stage Spot) (list : Option (List ℕ)) (o : Outcome Spot Words Fault Memory) → StageMade m.threads (Some stage) → Comes (x.flow.here t.top.at) o → Leaves m (effect_of_outcome thread stage t list m o)
     acted_leaves stage list (went q m2) h c = record { more = c; made = landing_made m2.threads list q }
     acted_leaves stage list (ended l m2) h c = record { more = c; made = tt }
     acted_leaves stage list blocked h c = record { more = omega arith; made = c }
     acted_leaves stage list (broke f) h c = record { more = omega arith; made = h }
     acted_leaves stage list unfit h c = record { more = omega arith; made = h }
 
-    step_leaves : (stage : Stage Spot) → StageMade m.threads (Some stage) → Leaves m (acted thread stage t (own_list_of (x.flow.here t.top.at)) m (stop_of x thread choice t m))
+    step_leaves : (stage : Stage Spot) → StageMade m.threads (Some stage) → Leaves m (effect_of_outcome thread stage t (own_list_of (x.flow.here t.top.at)) m (stop_of x thread choice t m))
     step_leaves stage h = acted_leaves stage (own_list_of (x.flow.here t.top.at)) (stop_of x thread choice t m) h (comes_at (x.flow.here t.top.at))
 
   still : (m : Memory) (stage : Stage Spot) → StageMade m.threads (Some stage) → Leaves m (no_effect m stage)
@@ -189,7 +189,7 @@ module _ (x : Image Spot) where
   looked_leaves thread m t stage h nothing = still m stage h
 
   act_leaves : (thread : ℕ) (choice : Choice) (m : Memory) (stage : Stage Spot) → StageMade m.threads (Some stage) → Leaves m (act_effect x thread choice stage m)
-  act_leaves thread choice m (starts function argument) h = either m (can_go x (starts function argument)) (no_effect m (starts function argument)) (ends_run m (starts function argument) _) (still m (starts function argument) h) (record { more = omega arith; made = tt })
+  act_leaves thread choice m (starts function argument) h = either m (can_advance x (starts function argument)) (no_effect m (starts function argument)) (ends_run m (starts function argument) _) (still m (starts function argument) h) (record { more = omega arith; made = tt })
   act_leaves thread choice m (going t) h = begun_leaves thread choice m t (going t) h (before x t)
   act_leaves thread choice m (waiting t) h = begun_leaves thread choice m t (waiting t) h (before x t)
   act_leaves thread choice m (landed list t) h = begun_leaves thread choice m t (landed list t) h (before x t)
@@ -201,7 +201,7 @@ module _ (x : Image Spot) where
   look_leaves thread m (landed list t) h = looked_leaves thread m t (landed list t) h (before x t)
 
   gone_leaves : (thread : ℕ) (m : Memory) (stage : Stage Spot) → StageMade m.threads (Some stage) → Leaves m (gone_effect x thread stage m)
-  gone_leaves thread m stage h = either m (can_go x stage) (no_effect m (going (gone x thread stage).thread)) (no_effect m stage) (still m (going (gone x thread stage).thread) tt) (still m stage h)
+  gone_leaves thread m stage h = either m (can_advance x stage) (no_effect m (going (advanced x thread stage).thread)) (no_effect m stage) (still m (going (advanced x thread stage).thread) tt) (still m stage h)
 
   serve_leaves : (thread : ℕ) (choice : Choice) (m : Memory) (stage : Stage Spot) → StageMade m.threads (Some stage) → Leaves m (serve_effect x thread choice stage m)
   serve_leaves thread choice m (starts function argument) h = still m (starts function argument) h
@@ -212,7 +212,7 @@ module _ (x : Image Spot) where
   -- ---- of all threads
 
   -- each thread waits for one that was made
-  abbrev pub AllMade : State Spot → Type 0
+  abbrev pub AllMade : MachineState Spot → Type 0
   AllMade s = (n : ℕ) → StageMade s.memory.threads (own_at s.own n)
 
   new_made : (ts : List Made) (us : List Made) (n : ℕ) → StageMade ts (own_at (map stage_made us) n)
@@ -234,7 +234,7 @@ module _ (x : Image Spot) where
   put_made ts (o ∷ os) us (suc thread) v h k (suc n) = put_made ts os us thread v (λ j. h (suc j)) k n
 
   -- one thread's event keeps it
-  if_made : (s : State Spot) (thread : ℕ) (effect : Stage Spot → Memory → Effect Spot) → ((stage : Stage Spot) → StageMade s.memory.threads (Some stage) → Leaves s.memory (effect stage s.memory)) → AllMade s
+  if_made : (s : MachineState Spot) (thread : ℕ) (effect : Stage Spot → Memory → Effect Spot) → ((stage : Stage Spot) → StageMade s.memory.threads (Some stage) → Leaves s.memory (effect stage s.memory)) → AllMade s
       → (o : Option (Stage Spot)) → own_at s.own thread ≡ o → AllMade (put_if s thread effect o)
   if_made s thread effect leaves all None at = all
   if_made s thread effect leaves all (Some stage) at =
@@ -242,18 +242,18 @@ module _ (x : Image Spot) where
       let l : Leaves s.memory e = leaves stage (subst (StageMade s.memory.threads) at (all thread)) in
       put_made e.memory.threads s.own (drop (length s.own) e.memory.threads) thread e.stage (λ n. stage_more s.memory.threads e.memory.threads l.more (own_at s.own n) (all n)) l.made
 
-  serves_made : (vs : List Serve) (s : State Spot) → AllMade s → AllMade (after_serves x vs s)
+  serves_made : (vs : List Serve) (s : MachineState Spot) → AllMade s → AllMade (after_serves x vs s)
   serves_made [] s all = all
   serves_made (v ∷ vs) s all = serves_made vs (after_serve x s v) (if_made s v.thread (serve_effect x v.thread v.choice) (serve_leaves v.thread v.choice s.memory) all (own_at s.own v.thread) refl)
 
-  event_made : (s : State Spot) (e : Event) → AllMade s → AllMade (after x s e)
+  event_made : (s : MachineState Spot) (e : Event) → AllMade s → AllMade (after x s e)
   event_made s (local thread) all = if_made s thread (gone_effect x thread) (gone_leaves thread s.memory) all (own_at s.own thread) refl
   event_made s (does_look thread) all = if_made s thread (look_effect x thread) (look_leaves thread s.memory) all (own_at s.own thread) refl
   event_made s (act thread choice) all = if_made s thread (act_effect x thread choice) (act_leaves thread choice s.memory) all (own_at s.own thread) refl
   event_made s (barrier moves served) all = serves_made served (serving_state (moved_state moves s)) all
 
   -- events keep it
-  pub all_made : (ds : List Event) (s : State Spot) → AllMade s → AllMade (after_all x ds s)
+  pub all_made : (ds : List Event) (s : MachineState Spot) → AllMade s → AllMade (after_all x ds s)
   all_made [] s all = all
   all_made (e ∷ ds) s all = all_made ds (after x s e) (event_made s e all)
 

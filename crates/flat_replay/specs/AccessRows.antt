@@ -6,7 +6,7 @@ use Rattle.block_store.specs.Runs.{run}
 use Rattle.struct_ir.specs.Linear.{Spot}
 use Rattle.struct_ir.specs.meaning.Start.{start}
 use Rattle.struct_ir.specs.meaning.Threads.{program_of}
-use Rattle.flat_meaning.specs.Events.{State, first_state}
+use Rattle.flat_meaning.specs.Events.{MachineState, first_state}
 use Rattle.flat_meaning.specs.Names.{plain}
 use Rattle.flat_meaning.specs.Order.{pick}
 use Rattle.flat_meaning.specs.Stages.{going}
@@ -14,7 +14,7 @@ use Rattle.flat_simulation.specs.TouchRows.{AfterTheStore, machine, source, with
 use Rattle.flat_replay.specs.Accesses.{StandsBy}
 
 -- the machine behind the store, with the array at its place
-abbrev pub behind_the_store : State Spot
+abbrev pub behind_the_store : MachineState Spot
 behind_the_store = record { memory = (first_state machine).memory; own = Some (going (with_array 5 4096)) ∷ []; end = None }
 
 -- whatever ids were handed out

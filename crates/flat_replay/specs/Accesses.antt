@@ -36,7 +36,7 @@ use Rattle.flat_rules.specs.Events.{most_local}
 use Rattle.flat_rules.specs.Replays.{step}
 use Rattle.flat_rules.specs.Replays as rules
 use Rattle.flat_rules.specs.Rules.{rules_of}
-use Rattle.flat_rules.specs.States.{Mood, free, asked, must, State, out, place_at, homes_of, none_out}
+use Rattle.flat_rules.specs.States.{Mood, free, asked, must, RunState, out, place_at, homes_of, none_out}
 use Rattle.flat_rules.specs.States as states
 use Rattle.flat_threads.specs.Contexts.{Context}
 use Rattle.flat_threads.specs.Going.{gone_on}
@@ -55,7 +55,7 @@ use Rattle.flat_replay.specs.Journals.{stages_in}
 -- ---- the machine's states at an entry
 
 -- each thread where its context says, but for one, which has gone on to this stage
-abbrev pub gone_to : State Shared Context → (thread : ℕ) → Stage Spot → events.State Spot
+abbrev pub gone_to : RunState Shared Context → (thread : ℕ) → Stage Spot → events.MachineState Spot
 gone_to x thread stage = record { memory = x.shared.memory; own = set (stages_in x) thread (Some stage); end = None }
 
 -- how many turns a thread goes on alone at most
@@ -65,14 +65,14 @@ bound_of asked = 0
 bound_of must = 0
 
 -- all threads at home, behind a barrier's moves, where it begins to serve and threads shared this before the moves
-abbrev pub swept_first : LinearCode → Shared → State Shared Context → events.State Spot
+abbrev pub swept_first : LinearCode → Shared → RunState Shared Context → events.MachineState Spot
 swept_first code shared x = let s = at_home shared (homes_of x.places) in serving_state (moved_state (sweep_moves (image_of code shared) s) s)
 
 -- ---- a step in a state
 
 -- by names of the globals and literals, and of the objects that got these ids, in this order, what is shared stands for the source's
 -- world; the source has each thread that the machine has, and each of its stack objects that has begun lies at its place in its call
-pub record StandsBy (y : Image Spot) (p : Ir) (given : List ℕ) (u : runs.State (Thread Position Own)) (s : events.State Spot) : Type 0 where
+pub record StandsBy (y : Image Spot) (p : Ir) (given : List ℕ) (u : runs.State (Thread Position Own)) (s : events.MachineState Spot) : Type 0 where
   pub names : List Name
   pub loaded : IsPrefix (first_names y.layout) names
   pub ids : ids_in names ≡ given
@@ -80,13 +80,13 @@ pub record StandsBy (y : Image Spot) (p : Ir) (given : List ℕ) (u : runs.State
   pub stacks : (thread : ℕ) (stage : Stage Spot) → own_at s.own thread ≡ Some stage → HasStack y p thread names u stage
 
 -- of each of these turns of a thread, unless it breaks a rule: what the step touches are bytes of blocks that the turn reaches
-abbrev pub TurnsTouch : Image Spot → Ir → List Name → runs.State (Thread Position Own) → events.State Spot → Thread Position Own → Thread Spot Words → List Pick → Type 0
+abbrev pub TurnsTouch : Image Spot → Ir → List Name → runs.State (Thread Position Own) → events.MachineState Spot → Thread Position Own → Thread Spot Words → List Pick → Type 0
 TurnsTouch y p names u s t q turns = All (λ (k : Pick). Unbroken (picked (program_of p) u k) → StepTouches y p names u s k t q) turns
 
 -- a thread's step, with what is chosen for it, done or tried: what it touches is what its turn reaches, unless that breaks a rule; where it
 -- waits for a mutex or a thread, its turn waits, or breaks a rule; where it traps, its turn breaks one; where it would print more than may
 -- be printed, its turn does; and where its call has no room, its turn enters that
-pub record ActStays (y : Image Spot) (p : Ir) (given : List ℕ) (u : runs.State (Thread Position Own)) (s : events.State Spot) (thread : ℕ) (choice : Choice) (stage : Stage Spot) : Type 0 where
+pub record ActStays (y : Image Spot) (p : Ir) (given : List ℕ) (u : runs.State (Thread Position Own)) (s : events.MachineState Spot) (thread : ℕ) (choice : Choice) (stage : Stage Spot) : Type 0 where
   pub stands : StandsBy y p given u s
   pub own : Thread Position Own
   pub at : own_at u.own thread ≡ Some own
@@ -98,7 +98,7 @@ pub record ActStays (y : Image Spot) (p : Ir) (given : List ℕ) (u : runs.State
 
 -- an allocation that is served, of a thread that waits there, in the state that its barrier leaves where it serves those before alone: their
 -- old objects have left. There a realloc of what has left with them is a trap, and so has no turn
-pub record ServeStays (y : Image Spot) (p : Ir) (given : List ℕ) (u : runs.State (Thread Position Own)) (s : events.State Spot) (v : Serve) (q : Thread Spot Words) : Type 0 where
+pub record ServeStays (y : Image Spot) (p : Ir) (given : List ℕ) (u : runs.State (Thread Position Own)) (s : events.MachineState Spot) (v : Serve) (q : Thread Spot Words) : Type 0 where
   pub stands : StandsBy y p given u s
   pub own : Thread Position Own
   pub at : own_at u.own v.thread ≡ Some own
@@ -109,8 +109,8 @@ pub record ServeStays (y : Image Spot) (p : Ir) (given : List ℕ) (u : runs.Sta
 -- what the journal leads to, where the entry's thread is out with the entry's worker; where that goes to alone, in as many turns as the
 -- entry tells; the machine's event there, if it has one, which does what the entry does and whose turn is the entry's; and what is claimed
 -- of its step, behind the turns of the journal so far and the thread's own
-pub record TurnOf (code : LinearCode) (s : Settings) (log : List Entry) (e : Entry) (Claim : List Pick → Image Spot → events.State Spot → Choice → Stage Spot → Type 0) : Type 0 where
-  pub here : State Shared Context
+pub record TurnOf (code : LinearCode) (s : Settings) (log : List Entry) (e : Entry) (Claim : List Pick → Image Spot → events.MachineState Spot → Choice → Stage Spot → Type 0) : Type 0 where
+  pub here : RunState Shared Context
   pub leads : replay code s log ≡ Some here
   pub context : Context
   pub count : ℕ
@@ -121,7 +121,7 @@ pub record TurnOf (code : LinearCode) (s : Settings) (log : List Entry) (e : Ent
   pub stop : Stop
   pub stops : (gone_on code (bound_of mood) context).stop ≡ Some stop
   pub alone : (gone_on code (bound_of mood) context).turns ≡ e.local
-  pub next : State Shared Context
+  pub next : RunState Shared Context
   pub goes : step (machine_of code) (rules_of s) here e ≡ Some next
   pub memory : let y = image_of code here.shared in next.shared.memory ≡ (after_all y (events_of y e.thread here.shared.memory stage stop) (gone_to here e.thread stage)).memory
   pub ending : let y = image_of code here.shared in next.ending ≡ (after_all y (events_of y e.thread here.shared.memory stage stop) (gone_to here e.thread stage)).end
@@ -138,13 +138,13 @@ TurnStays p code s log e = TurnOf code s log e (λ picks y moved choice stage. U
 
 -- what the journal leads to up to the entry or its evacuation, where no thread is out; and of each allocation that is then served, behind
 -- the moves and the allocations before it, by which thread it waits, and what is claimed of it, behind the turns so far
-pub record ServesOf (code : LinearCode) (s : Settings) (log : List Entry) (e : Entry) (Claim : List Pick → (given : List ℕ) → Image Spot → events.State Spot → Serve → Thread Spot Words → Type 0) : Type 0 where
+pub record ServesOf (code : LinearCode) (s : Settings) (log : List Entry) (e : Entry) (Claim : List Pick → (given : List ℕ) → Image Spot → events.MachineState Spot → Serve → Thread Spot Words → Type 0) : Type 0 where
   pub front : List Entry
   pub behind : IsBehind front log e
-  pub here : State Shared Context
+  pub here : RunState Shared Context
   pub leads : replay code s front ≡ Some here
   pub alone : none_out (machine_of code) (rules_of s) here ≡ true
-  pub next : State Shared Context
+  pub next : RunState Shared Context
   pub goes : rules.run (machine_of code) (rules_of s) (log ++ e ∷ []) (states.start (machine_of code) (rules_of s) (first_shared code (settings_limits s))) ≡ Some next
   pub memory : let shared = middle code s here in let y = image_of code shared in
       next.shared.memory ≡ (served_state (after_serves y (sweep_serves y (at_home shared (homes_of here.places))) (swept_first code shared here))).memory

@@ -11,7 +11,7 @@ use Rattle.flat_meaning.specs.Order.{attempts_of, order_of}
 use Rattle.flat_meaning.specs.Stages.{Stage}
 use Rattle.flat_meaning.specs.Start.{ids_of}
 use Rattle.flat_rules.specs.declared.settings.Settings.{Settings}
-use Rattle.flat_rules.specs.States.{Place, unbegun, home, out, gone, State}
+use Rattle.flat_rules.specs.States.{Place, unbegun, home, out, gone, RunState}
 use Rattle.flat_threads.specs.Contexts.{Context}
 use Rattle.flat_machine.specs.Shares.{Shared, image_of}
 use Rattle.flat_machine.specs.Start.{settings_limits}
@@ -31,13 +31,13 @@ context_in (out worker c turns mood) = Some c
 context_in gone = None
 
 -- how far each thread that was made is, by its context
-abbrev pub stages_in : State Shared Context → List (Option (Stage Spot))
+abbrev pub stages_in : RunState Shared Context → List (Option (Stage Spot))
 stages_in x = stages_home x.shared.memory.threads (map context_in x.places)
 
 -- events, one after the other from the start, that lead to a state of the replay: to what threads share, to the end of the run, and, while
 -- that goes on, to each thread's stage; the turns that they make are those of the journal, and so are those that were tried, and the ids
 -- that they hand out
-pub record IsOfEvents (code : LinearCode) (s : Settings) (log : List Entry) (x : State Shared Context) : Type 0 where
+pub record IsOfEvents (code : LinearCode) (s : Settings) (log : List Entry) (x : RunState Shared Context) : Type 0 where
   pub events : List Event
   pub allowed : AreAllowed (image_for code s) events (first_state (image_for code s))
   pub memory : (after_all (image_for code s) events (first_state (image_for code s))).memory ≡ x.shared.memory

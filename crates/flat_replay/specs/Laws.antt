@@ -15,7 +15,7 @@ use Rattle.lower_turns.specs.Turns.{KeepsEveryTurn}
 use Rattle.flat_meaning.specs.Image.{linear_image}
 use Rattle.flat_meaning.specs.Simulation.{IsLoadable, IsChecked}
 use Rattle.flat_rules.specs.declared.settings.Settings.{Settings}
-use Rattle.flat_rules.specs.States.{State}
+use Rattle.flat_rules.specs.States.{RunState}
 use Rattle.flat_threads.specs.Contexts.{Context, IsProgram}
 use Rattle.flat_machine.specs.Replays.{replay, final_at}
 use Rattle.flat_machine.specs.Shares.{Shared}
@@ -30,7 +30,7 @@ use Rattle.flat_replay.specs.Meaning.{IsMeaning}
 -- whatever the program, the settings and the rules of C that it broke
 abbrev pub BarriersOfARunKeepObjects : Type 0
 BarriersOfARunKeepObjects =
-    (code : LinearCode) (s : Settings) → IsProgram code → IsLoadable (linear_image code (settings_limits s)).layout → (log : List Entry) (z : State Shared Context) → replay code s log ≡ Some z → BarriersKeep code s log
+    (code : LinearCode) (s : Settings) → IsProgram code → IsLoadable (linear_image code (settings_limits s)).layout → (log : List Entry) (z : RunState Shared Context) → replay code s log ≡ Some z → BarriersKeep code s log
 
 -- a program with little plain data fits in memory, whatever the settings
 abbrev pub SmallProgramsFit : Type 0
@@ -39,7 +39,7 @@ SmallProgramsFit = (code : LinearCode) (s : Settings) → plain_bytes code.globa
 -- a journal that replays is of events that may come, one after the other
 abbrev pub AJournalIsOfEvents : Type 0
 AJournalIsOfEvents =
-    (code : LinearCode) (s : Settings) → IsProgram code → IsLoadable (linear_image code (settings_limits s)).layout → (log : List Entry) (x : State Shared Context) → replay code s log ≡ Some x → IsOfEvents code s log x
+    (code : LinearCode) (s : Settings) → IsProgram code → IsLoadable (linear_image code (settings_limits s)).layout → (log : List Entry) (x : RunState Shared Context) → replay code s log ≡ Some x → IsOfEvents code s log x
 
 -- ---- what a journal means
 
@@ -47,20 +47,20 @@ AJournalIsOfEvents =
 -- kind that it doesn't take
 abbrev pub JournalsOfGuardedCodeAreMeant : Type 0
 JournalsOfGuardedCodeAreMeant =
-    (p : Ir) → IsGuarded p → (code : LinearCode) → IsEmitted p code → AllLawful code.funcs → IsProgram code → (s : Settings) (log : List Entry) (x : State Shared Context) → replay code s log ≡ Some x
+    (p : Ir) → IsGuarded p → (code : LinearCode) → IsEmitted p code → AllLawful code.funcs → IsProgram code → (s : Settings) (log : List Entry) (x : RunState Shared Context) → replay code s log ≡ Some x
     → IsMeaningUpToAKind p log s (final_at code s log x)
 
 -- a journal of checked code has the code's own meaning over named blocks
 abbrev pub JournalsOfCheckedCodeAreMeant : Type 0
 JournalsOfCheckedCodeAreMeant =
-    (p : Ir) → IsChecked p → (code : LinearCode) → IsEmitted p code → AllLawful code.funcs → IsProgram code → (s : Settings) (log : List Entry) (x : State Shared Context) → replay code s log ≡ Some x
+    (p : Ir) → IsChecked p → (code : LinearCode) → IsEmitted p code → AllLawful code.funcs → IsProgram code → (s : Settings) (log : List Entry) (x : RunState Shared Context) → replay code s log ≡ Some x
     → IsMeaning (program_of p) (start p) (λ t. length t.callers) log s (final_at code s log x)
 
 -- and so that of each program of which, without its Looks, safepoints, slots and lists, it keeps every turn
 abbrev pub JournalsMeanTheSource : Type 0
 JournalsMeanTheSource =
     (t : Typed) (p : Ir) → KeepsEveryTurn t (ir_erased p) → IsChecked p → (code : LinearCode) → IsEmitted p code → AllLawful code.funcs → IsProgram code
-    → (s : Settings) (log : List Entry) (x : State Shared Context) → replay code s log ≡ Some x → IsMeaning (source.program t) (source.start t) (λ c. length c.callers) log s (final_at code s log x)
+    → (s : Settings) (log : List Entry) (x : RunState Shared Context) → replay code s log ≡ Some x → IsMeaning (source.program t) (source.start t) (λ c. length c.callers) log s (final_at code s log x)
 
 -- ---- accesses
 
@@ -68,9 +68,9 @@ JournalsMeanTheSource =
 -- that its turn reaches
 abbrev pub AccessesOfJournalsStay : Type 0
 AccessesOfJournalsStay =
-    (p : Ir) → IsChecked p → (code : LinearCode) → IsEmitted p code → AllLawful code.funcs → IsProgram code → (s : Settings) (log : List Entry) (x : State Shared Context) → replay code s log ≡ Some x → AccessesKeep p code s log
+    (p : Ir) → IsChecked p → (code : LinearCode) → IsEmitted p code → AllLawful code.funcs → IsProgram code → (s : Settings) (log : List Entry) (x : RunState Shared Context) → replay code s log ≡ Some x → AccessesKeep p code s log
 
 -- and of guarded code, up to the first operation on a value of a kind that it doesn't take, too
 abbrev pub AccessesOfGuardedJournalsStay : Type 0
 AccessesOfGuardedJournalsStay =
-    (p : Ir) → IsGuarded p → (code : LinearCode) → IsEmitted p code → AllLawful code.funcs → IsProgram code → (s : Settings) (log : List Entry) (x : State Shared Context) → replay code s log ≡ Some x → AccessesKeepUpToAKind p code s log
+    (p : Ir) → IsGuarded p → (code : LinearCode) → IsEmitted p code → AllLawful code.funcs → IsProgram code → (s : Settings) (log : List Entry) (x : RunState Shared Context) → replay code s log ≡ Some x → AccessesKeepUpToAKind p code s log

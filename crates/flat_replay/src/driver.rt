@@ -8,11 +8,11 @@ ghost use Rattle.flat_rules.specs.Replays.{replay};
 ghost use Rattle.flat_rules.specs.States.{end_of, most_threads};
 ghost use Rattle.world_rules.specs.declared.calls.Call.TheVariants as call;
 ghost use Rattle.world_rules.specs.declared.calls.Found.{Found};
-ghost use Rattle.world_rules.specs.Whole.{Whole, Reaches};
+ghost use Rattle.world_rules.specs.Whole.{Whole, LeadsFromOpening};
 ghost use Rattle.world_rules.specs.Calls as calls;
 ghost use Rattle.flat_replay.specs.inner.Hands.{hand_at, with_worker, hands_found, hand_acted, stepped, homed, called};
 ghost use Rattle.flat_replay.specs.inner.Hands as by;
-ghost use Rattle.flat_replay.specs.inner.Follows.{IsAt, Follows, Takes, Comes};
+ghost use Rattle.flat_replay.specs.inner.Follows.{IsAt, FollowsFront, Takes, Comes};
 
 use ak_trace::{Entry, Journal, kind};
 use ak_words::NoMemory;
@@ -198,8 +198,8 @@ impl<F: Flat<Code, Context> + Drop, Code: Drop, Context: Drop> Driver<F, Code, C
 
     // Takes the entry at `i`, where it is the one that may come.
     fn takes(&mut self, i: u32, e: Entry) -> bool
-        requires at { (first : Whole F Code Context) × (front : List Entry) × (i ≡ length front) × Follows F.machine F.shared_of first front self.old.world self.old.hands.items × (first.settings.workers < 64) }
-        ensures { (first : Whole F Code Context) (front : List Entry) → i ≡ length front → Follows F.machine F.shared_of first front self.old.world self.old.hands.items → Takes F.machine F.shared_of first front e self.new.world self.new.hands.items result }
+        requires at { (first : Whole F Code Context) × (front : List Entry) × (i ≡ length front) × FollowsFront F.machine F.shared_of first front self.old.world self.old.hands.items × (first.settings.workers < 64) }
+        ensures { (first : Whole F Code Context) (front : List Entry) → i ≡ length front → FollowsFront F.machine F.shared_of first front self.old.world self.old.hands.items → Takes F.machine F.shared_of first front e self.new.world self.new.hands.items result }
     {
         if i < self.world.journal().len() {
             return self.wrote(i, e);
@@ -212,7 +212,7 @@ impl<F: Flat<Code, Context> + Drop, Code: Drop, Context: Drop> Driver<F, Code, C
 
     /// Whether the journal is one of a world in which nothing has run, and if so takes it.
     pub(crate) fn follow(&mut self, journal: &Journal) -> bool
-        requires fresh { Reaches F.machine F.shared_of self.old.world [] self.old.world }
+        requires fresh { LeadsFromOpening F.machine F.shared_of self.old.world [] self.old.world }
         requires home { self.old.hands.items ≡ replicate most_threads None }
         requires workers { self.old.world.settings.workers < 64 }
         ensures { Comes F.machine F.shared_of self.old.world journal.now.entries self.new.world result }

@@ -11,7 +11,7 @@ use Rattle.ak_trace.specs.declared.endings.End.TheVariants.{TurnLimit}
 use Rattle.flat_rules.specs.Rules.{Rules}
 use Rattle.flat_rules.specs.Machine.{Machine, Acted, Served, cleared, sweep}
 use Rattle.flat_rules.specs.Entries.{served_entry, barrier_entry, evacuation_entry, sweep_entries}
-use Rattle.flat_rules.specs.States.{State, Place, Mood, free, asked, at_home, homes_of, start, or_else, waits_for_room, kept_free}
+use Rattle.flat_rules.specs.States.{RunState, Place, Mood, free, asked, at_home, homes_of, start, or_else, waits_for_room, kept_free}
 use Rattle.flat_rules.specs.Events.{Event, Goes, on, back, away, goes, turn_event, turned_by, places_after}
 use Rattle.flat_rules.specs.Replays.{event_at, step, run, replay, settled}
 use Rattle.flat_rules.specs.Laws.{ServesFew, SpareIsLeft, EventsFit, JournalsFit, TurnLimitAt65}
@@ -46,13 +46,13 @@ sweep_first w false room ss d ds e = let same : barrier_entry w room ≡ d = cc 
 
 module _ {S C : Type 0} (m : Machine S C) (settings : Rules) (few : ServesFew m) where
   -- what an event leaves of the spare and of the places, and how many entries it has
-  pub record Modest (s : State S C) (v : Event S C) : Type 0 where
+  pub record Modest (s : RunState S C) (v : Event S C) : Type 0 where
     pub spare : v.after.spare ≡ s.spare
     pub places : length v.after.places ≡ length s.places
     pub entries : length v.entries ≤ 2 + length s.places
     pub single : (d : Entry) (ds : List Entry) → v.entries ≡ d ∷ ds → d.kind ≢ kind.barrier → ds ≡ []
 
-  turned_modest : (s : State S C) (w t n : ℕ) (mood : Mood) (a : Acted S C) → Modest s (turn_event m settings s w t n mood a)
+  turned_modest : (s : RunState S C) (w t n : ℕ) (mood : Mood) (a : Acted S C) → Modest s (turn_event m settings s w t n mood a)
   turned_modest s w t n mood a = by (goes a.turned)
     where
       by : (g : Goes) → Modest s (record (turn_event m settings s w t n mood a) { after = turned_by m settings s w t (n + 1) mood a g })
@@ -60,7 +60,7 @@ module _ {S C : Type 0} (m : Machine S C) (settings : Rules) (few : ServesFew m)
       by back = record { spare = refl; places = length-set s.places t _; entries = omega arith; single = λ d ds e other. cc e }
       by away = record { spare = refl; places = length-set s.places t _; entries = omega arith; single = λ d ds e other. cc e }
 
-  modest : (s : State S C) (w : ℕ) → Cases m settings s w (Modest s)
+  modest : (s : RunState S C) (w : ℕ) → Cases m settings s w (Modest s)
   modest s w = record {
     begins = λ t c calm picked at. record { spare = refl; places = length-set s.places t _; entries = omega arith; single = λ d ds e other. cc e };
     leaves = λ t c calm picked at. record { spare = refl; places = length-set s.places t _; entries = omega arith; single = λ d ds e other. cc e };
@@ -76,19 +76,19 @@ module _ {S C : Type 0} (m : Machine S C) (settings : Rules) (few : ServesFew m)
   }
 
   -- with the entries so far
-  pub record Counts (log : List Entry) (s : State S C) : Type 0 where
+  pub record Counts (log : List Entry) (s : RunState S C) : Type 0 where
     pub all : s.spare + (length log + length s.due) ≡ settings.entries
     pub places : length s.places ≡ 64
     pub high : 65 ≤ settings.entries → count_by is_barrier log ≡ 0 → 65 ≤ s.spare
 
-  next_counts : (log : List Entry) (s : State S C) (e : Entry) (s' : State S C) → Counts log s → IsNext m settings s e s' → Counts (log ++ e ∷ []) s'
+  next_counts : (log : List Entry) (s : RunState S C) (e : Entry) (s' : RunState S C) → Counts log s → IsNext m settings s e s' → Counts (log ++ e ∷ []) s'
   next_counts log s e s' c n = subst (Counts (log ++ e ∷ [])) (sym n.is) (record {
     all = let a = length-append log (e ∷ []) in let b = c.all in let d : length s.due ≡ suc (length n.ds) = ap length n.due in omega arith;
     places = c.places;
     high = λ big none. c.high big (let a = sum_by-append (λ (x : Entry). cond (is_barrier x) 1 0) log (e ∷ []) in omega arith);
   })
 
-  first_counts : (log : List Entry) (s : State S C) (e : Entry) (s' : State S C) → Counts log s → IsFirst m settings s e s' → Counts (log ++ e ∷ []) s'
+  first_counts : (log : List Entry) (s : RunState S C) (e : Entry) (s' : RunState S C) → Counts log s → IsFirst m settings s e s' → Counts (log ++ e ∷ []) s'
   first_counts log s e s' c f =
       let v : Modest s f.v = subst (Holds m settings s e.worker (Modest s)) f.event (event_holds m settings s e.worker (Modest s) (modest s e.worker) e.kind e.thread) in
       let low : nat_lt s.spare 66 ≡ false = live_spare s.ending (nat_lt s.spare 66) _ f.live in
@@ -102,30 +102,30 @@ module _ {S C : Type 0} (m : Machine S C) (settings : Rules) (few : ServesFew m)
         high = λ big none. let alone : f.ds ≡ [] = v.single f.d f.ds f.entries (λ k. no_barrier log e none (same_kind e f.d f.same ∙ k)) in let l : length f.ds ≡ 0 = ap length alone in omega arith;
       })
 
-  counts : (log : List Entry) (s : State S C) (e : Entry) (s' : State S C) → Counts log s → step m settings s e ≡ Some s' → Counts (log ++ e ∷ []) s'
+  counts : (log : List Entry) (s : RunState S C) (e : Entry) (s' : RunState S C) → Counts log s → step m settings s e ≡ Some s' → Counts (log ++ e ∷ []) s'
   counts log s e s' c st = step_cases m settings s e s' {R = Counts (log ++ e ∷ []) s'} (next_counts log s e s' c) (first_counts log s e s' c) st
 
   begins_counting : (shared : S) → Counts [] (start m settings shared)
   begins_counting shared = record { all = omega arith; places = refl; high = λ big none. big }
 
-  settled_run : (s s' : State S C) → settled m settings s ≡ Some s' → (s ≡ s') × (length s.due ≡ 0)
+  settled_run : (s s' : RunState S C) → settled m settings s ≡ Some s' → (s ≡ s') × (length s.due ≡ 0)
   settled_run s s' is = at (length s.due == 0) refl is
     where
       at : (b : Bool) → (length s.due == 0) ≡ b → cond b (Some s) None ≡ Some s' → (s ≡ s') × (length s.due ≡ 0)
       at true e is = (cc is, same_number (length s.due) 0 e)
       at false e is = absurd (cc is)
 
-  run_counts : (shared : S) (log : List Entry) (s : State S C) → run m settings log (start m settings shared) ≡ Some s → Counts log s
+  run_counts : (shared : S) (log : List Entry) (s : RunState S C) → run m settings log (start m settings shared) ≡ Some s → Counts log s
   run_counts shared log s is = run_keeps m settings Counts counts [] log (start m settings shared) s (begins_counting shared) is
 
-  event_fits : (log : List Entry) (s : State S C) (k w t : ℕ) (v : Event S C) → Counts log s → event_at m settings s k w t ≡ Some v → length v.entries ≤ kept_free
+  event_fits : (log : List Entry) (s : RunState S C) (k w t : ℕ) (v : Event S C) → Counts log s → event_at m settings s k w t ≡ Some v → length v.entries ≤ kept_free
   event_fits log s k w t v c event =
       let h : Modest s v = subst (Holds m settings s w (Modest s)) event (event_holds m settings s w (Modest s) (modest s w) k t) in
       let a = h.entries in let b = c.places in omega arith
 
-  replay_counts : (shared : S) (log : List Entry) (s : State S C) → replay m settings shared log ≡ Some s → Counts log s × (length s.due ≡ 0)
+  replay_counts : (shared : S) (log : List Entry) (s : RunState S C) → replay m settings shared log ≡ Some s → Counts log s × (length s.due ≡ 0)
   replay_counts shared log s is = option_and_then_some (settled m settings) (run m settings log (start m settings shared)) s is (λ x ran done. let r = settled_run x s done in let e = r.0 in let d = r.1 in
-      (subst (Counts log) e (run_counts shared log x ran), subst (λ (z : State S C). length z.due ≡ 0) e d))
+      (subst (Counts log) e (run_counts shared log x ran), subst (λ (z : RunState S C). length z.due ≡ 0) e d))
 
 pub spare_is_left : (S C : Type 0) → SpareIsLeft S C
 spare_is_left S C m settings shared log s few is = let r = replay_counts m settings few shared log s is in let a = r.0.all in let b = r.1 in omega arith

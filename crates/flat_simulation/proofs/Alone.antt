@@ -9,7 +9,7 @@ use Rattle.arena_meaning.specs.Arena.{Storage}
 use Rattle.struct_ir.specs.Nodes.{Act, set, call, step, look, safepoint, begin_object, end_object, Ir}
 use Rattle.struct_ir.specs.Flow.{Here, does, tests, passes, round, returns}
 use Rattle.struct_ir.specs.Machine as steps
-use Rattle.struct_ir.specs.Machine.{Point, Ahead, goes, stops, breaks, acted, tested, stopped_or, ahead_at, ahead, Steps, more, IsRun}
+use Rattle.struct_ir.specs.Machine.{Point, Ahead, goes, stops, breaks, after_act, tested, stopped_or, ahead_at, ahead, Steps, more, IsRun}
 use Rattle.struct_ir.specs.Threads.{Thread, behind}
 use Rattle.struct_ir.specs.Valid.{scope_of}
 use Rattle.struct_ir.specs.ValidCode.{is_here}
@@ -30,7 +30,7 @@ use Rattle.flat_simulation.specs.inner.Frames.{FrameLies}
 use Rattle.flat_simulation.specs.inner.Values.{KnownIn, AnyBlock, Sees}
 use Rattle.flat_simulation.specs.inner.Calls.{LiesThere, DataStands}
 use Rattle.flat_simulation.specs.inner.Turns.{Far}
-use Rattle.flat_simulation.specs.inner.Lags.{Reaches, comes, breaks, InTurn}
+use Rattle.flat_simulation.specs.inner.Lags.{CatchesUpInTurn, comes, breaks, InTurn}
 use Rattle.flat_simulation.specs.inner.Programs.{IsImage, HasFrame}
 use Rattle.flat_simulation.specs.inner.Worlds.{WorldStands}
 use Rattle.flat_simulation.specs.inner.Threads.{CallersStand, ThreadStands}
@@ -71,7 +71,7 @@ module _ {P : Type 0} (x : Image P) (thread : ℕ) where
   act_frame (begin_object i) q = same_frame q
   act_frame (end_object i) q = same_frame q
 
-  acted_frame : (k : P) (a : Act) (q : Words) (b : Bool) (r : Point P Words) → stopped_or b (acted {F = flat.Fault} k (Ok (machine.own_act x.layout thread a q))) ≡ goes r → SameFrame q r.own
+  acted_frame : (k : P) (a : Act) (q : Words) (b : Bool) (r : Point P Words) → stopped_or b (after_act {F = flat.Fault} k (Ok (machine.own_act x.layout thread a q))) ≡ goes r → SameFrame q r.own
   acted_frame k a q true r e = absurd cc
   acted_frame k a q false r e = let is : record { at = k; own = machine.own_act x.layout thread a q } ≡ r = cc in subst (λ (z : Point P Words). SameFrame q z.own) is (act_frame a q)
 
@@ -118,7 +118,7 @@ module _ {P : Type 0} (x : Image P) (p : Ir) (image : IsImage x p) (thread : ℕ
 
     module _ (k : Point P Own) where
       abbrev Top : Point P Words → Type 0
-      Top q = Reaches x p thread (length w.blocks) all later s k q
+      Top q = CatchesUpInTurn x p thread (length w.blocks) all later s k q
 
       abbrev FarTo : List Name → Own → Words → Type 0
       FarTo n l q = Far x.layout (length w.blocks) all later n thread l q
@@ -146,7 +146,7 @@ module _ {P : Type 0} (x : Image P) (p : Ir) (image : IsImage x p) (thread : ℕ
           → FarTo n y.own r.own → At x p thread n K s (record { at = x.flow.next y.at true; own = y.own }) r → Top r
       act_on y n r place a own alone here path far at =
           let e : ahead x.flow (blocks_machine p) y ≡ goes (record { at = x.flow.next y.at true; own = y.own })
-          = ap (ahead_at x.flow (blocks_machine p) y) here ∙ (ap (λ b. stopped_or b (acted (x.flow.next y.at true) (source.own_act p place a y.own))) alone ∙ ap (λ o. acted (x.flow.next y.at true) o) own) in
+          = ap (ahead_at x.flow (blocks_machine p) y) here ∙ (ap (λ b. stopped_or b (after_act (x.flow.next y.at true) (source.own_act p place a y.own))) alone ∙ ap (λ o. after_act (x.flow.next y.at true) o) own) in
           comes (record { at = x.flow.next y.at true; own = y.own }) n (more y (record { at = x.flow.next y.at true; own = y.own }) path e) far at
 
       pub look_on : (q : Point P Words) → HasFrame x.layout p q.own → (place slot base : ℕ) → x.flow.here q.at ≡ does place (look slot base) → Top q → Top (behind x.flow q (machine.looked s q.own slot (word_at q.own base)))

@@ -9,21 +9,21 @@ use Rattle.flat_meaning.specs.Image.{Image}
 use Rattle.flat_meaning.specs.Words.{Words}
 use Rattle.flat_meaning.specs.Memory.{Memory}
 use Rattle.flat_meaning.specs.Accesses.{Choice, plain}
-use Rattle.flat_meaning.specs.Stages.{Stage, starts, going, waiting, landed, thread_at, Before, looks, steps, calls, before, room_for, past_if, gone_from, gone, goes_alone, can_go}
+use Rattle.flat_meaning.specs.Stages.{Stage, starts, going, waiting, landed, thread_at, Before, looks, steps, calls, before, room_for, past_safepoint, advanced_from, advanced, can_pass, can_advance}
 use Rattle.flat_meaning.specs.Effects.{no_effect, ends_run, stop_of, step_effect, act_before, act_effect, look_before, look_effect, gone_effect}
-use Rattle.flat_meaning.specs.Events.{State, local, look, act, put, put_if, after}
+use Rattle.flat_meaning.specs.Events.{MachineState, local, look, act, put, put_if, after}
 use Rattle.flat_meaning.specs.Order.{pick, step_picks, act_picks, local_picks, picks_of_local, picks_of_act, picks_of, tried_if, tried_before, tried_at, tried_by}
 use Rattle.flat_meaning.specs.Allowed.{MayAct, MayStep, MayStepAt, MayGo, StandsBefore, MayCome}
 use Rattle.flat_simulation.specs.LinearSteps.{HasBegun}
 
 module _ {P : Type 0} (x : Image P) where
-  pub gone_begun : (thread : ℕ) (g : Stage P) → HasBegun g → gone x thread g ≡ gone_from x thread (past_if x (thread_at x g) (before x (thread_at x g)))
+  pub gone_begun : (thread : ℕ) (g : Stage P) → HasBegun g → advanced x thread g ≡ advanced_from x thread (past_safepoint x (thread_at x g) (before x (thread_at x g)))
   gone_begun thread (starts function argument) h = absurd h
   gone_begun thread (going t) h = refl
   gone_begun thread (waiting t) h = refl
   gone_begun thread (landed list t) h = refl
 
-  pub can_begun : (g : Stage P) → HasBegun g → can_go x g ≡ goes_alone x (thread_at x g) (before x (thread_at x g))
+  pub can_begun : (g : Stage P) → HasBegun g → can_advance x g ≡ can_pass x (thread_at x g) (before x (thread_at x g))
   can_begun (starts function argument) h = absurd h
   can_begun (going t) h = refl
   can_begun (waiting t) h = refl
@@ -41,17 +41,17 @@ module _ {P : Type 0} (x : Image P) where
   stands_at (waiting t) h b e = e
   stands_at (landed list t) h b e = e
 
-module _ {P : Type 0} (x : Image P) (s : State P) (thread : ℕ) (g : Stage P) (at : own_at s.own thread ≡ Some g) where
+module _ {P : Type 0} (x : Image P) (s : MachineState P) (thread : ℕ) (g : Stage P) (at : own_at s.own thread ≡ Some g) where
   -- ---- it goes on alone
 
-  module _ (can : can_go x g ≡ true) where
-    pub after_local : after x s (local thread) ≡ put s thread (no_effect s.memory (going (gone x thread g).thread))
+  module _ (can : can_advance x g ≡ true) where
+    pub after_local : after x s (local thread) ≡ put s thread (no_effect s.memory (going (advanced x thread g).thread))
     after_local =
         ap (put_if s thread (gone_effect x thread)) at
-        ∙ ap (λ (b : Bool). put s thread (if b then no_effect s.memory (going (gone x thread g).thread) else no_effect s.memory g)) can
+        ∙ ap (λ (b : Bool). put s thread (if b then no_effect s.memory (going (advanced x thread g).thread) else no_effect s.memory g)) can
 
-    pub picks_of-local : picks_of x s (local thread) ≡ local_picks thread (gone x thread g).turns
-    picks_of-local = ap (picks_of_local x thread) at ∙ ap (λ (b : Bool). if b then local_picks thread (gone x thread g).turns else []) can
+    pub picks_of-local : picks_of x s (local thread) ≡ local_picks thread (advanced x thread g).turns
+    picks_of-local = ap (picks_of_local x thread) at ∙ ap (λ (b : Bool). if b then local_picks thread (advanced x thread g).turns else []) can
 
     pub may_local : MayCome x s (local thread)
     may_local = subst (MayGo x) (sym at) can
@@ -139,7 +139,7 @@ module _ {P : Type 0} (x : Image P) (s : State P) (thread : ℕ) (g : Stage P) (
       may_look = subst (λ o. StandsBefore x o looks) (sym at) (stands_at x g begun looks e)
 
 -- the first function of a thread has no room
-module _ {P : Type 0} (x : Image P) (s : State P) (thread : ℕ) (choice : Choice) (function argument : ℕ) (at : own_at s.own thread ≡ Some (starts function argument)) (none : can_go x (starts function argument) ≡ false) where
+module _ {P : Type 0} (x : Image P) (s : MachineState P) (thread : ℕ) (choice : Choice) (function argument : ℕ) (at : own_at s.own thread ≡ Some (starts function argument)) (none : can_advance x (starts function argument) ≡ false) where
   pub after_fresh : after x s (act thread choice) ≡ put s thread (ends_run s.memory (starts function argument) (ends.StackLimit thread))
   after_fresh =
       ap (put_if s thread (act_effect x thread choice)) at

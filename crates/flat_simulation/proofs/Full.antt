@@ -19,8 +19,8 @@ use Rattle.flat_meaning.specs.Memory.{Memory}
 use Rattle.flat_meaning.specs.Accesses as flat
 use Rattle.flat_meaning.specs.Accesses.{Choice}
 use Rattle.flat_meaning.specs.Stages.{Stage, starts, going, waiting, landed, Before, safe, looks, steps, calls, turn_over, nothing, before_here, before_return, before}
-use Rattle.flat_meaning.specs.Effects.{own_list_of, stop_of, acted, act_before, act_effect}
-use Rattle.flat_meaning.specs.Events.{State, act, put_if, after, end_or}
+use Rattle.flat_meaning.specs.Effects.{own_list_of, stop_of, effect_of_outcome, act_before, act_effect}
+use Rattle.flat_meaning.specs.Events.{MachineState, act, put_if, after, end_or}
 use Rattle.flat_meaning.specs.Allowed.{MayStep, MayStepAt, IsAllowed}
 use Rattle.flat_meaning.specs.Order.{pick, tried_before, tried_at, tried_by}
 use Rattle.flat_meaning.specs.Names.{Name}
@@ -35,7 +35,7 @@ use Rattle.flat_simulation.proofs.Stopping.{IsStop, Stopped, stops_or_breaks, le
 use Rattle.flat_simulation.proofs.Stepping.{there, turn_stops, turn_breaks}
 use Rattle.flat_simulation.proofs.Follow.{one_all, Halts, tried_all, picked_is, is_right}
 
-module _ (p : Ir) (limits : Limits) (image : IsImage (structured_image p limits) p) (names : List Name) (u : runs.State (Thread Position Own)) (s : State Position) (stand : StateStands (structured_image p limits) p names u s)
+module _ (p : Ir) (limits : Limits) (image : IsImage (structured_image p limits) p) (names : List Name) (u : runs.State (Thread Position Own)) (s : MachineState Position) (stand : StateStands (structured_image p limits) p names u s)
     (goes_on : s.end ≡ None) (thread : ℕ) (right : TakesRightKinds p u thread) where
   abbrev y : Image Position
   y = structured_image p limits
@@ -99,7 +99,7 @@ module _ (p : Ir) (limits : Limits) (image : IsImage (structured_image p limits)
     module _ (g : Stage Position) (q : Thread Position Words) (its : ThreadStands y p thread names u.world.blocks m.storage k q) where
       -- how the run has ended behind a step
       abbrev end_of : Outcome Position Words flat.Fault Memory → Option End
-      end_of o = end_or (acted thread g q (own_list_of (structured.here q.top.at)) m o).end s.end
+      end_of o = end_or (effect_of_outcome thread g q (own_list_of (structured.here q.top.at)) m o).end s.end
 
       -- no step ends it for want of room
       no_step : (o : Outcome Position Words flat.Fault Memory) → end_of o ≡ Some (ends.StackLimit number) → Halts o → ⊥

@@ -6,7 +6,7 @@ use Rattle.block_store.specs.Actions.{World, with_blocks}
 use Rattle.arena_meaning.specs.Arena.{Storage}
 use Rattle.struct_ir.specs.Nodes.{Act, Call, call, set, step, look, safepoint, begin_object, end_object, Ir}
 use Rattle.struct_ir.specs.Flow.{Here, does, tests, passes, round, returns, entry}
-use Rattle.struct_ir.specs.Machine.{Point, stops, breaks, acted, stopped_or, ahead_at, ahead, run, IsRun}
+use Rattle.struct_ir.specs.Machine.{Point, stops, breaks, after_act, stopped_or, ahead_at, ahead, run, IsRun}
 use Rattle.struct_ir.specs.Threads.{Thread, Outcome, went, broke, alone, stop_event, stop_at, left_call, and_then, turn}
 use Rattle.struct_ir.specs.Valid.{scope_of}
 use Rattle.struct_ir.specs.ValidCode.{is_here}
@@ -19,7 +19,7 @@ use Rattle.flat_meaning.specs.Memory.{Memory}
 use Rattle.flat_meaning.specs.Accesses as flat
 use Rattle.flat_meaning.specs.Machine as machine
 use Rattle.flat_meaning.specs.Machine.{ends_event, words_machine, words_world}
-use Rattle.flat_meaning.specs.Stages.{Stage, starts, going, waiting, landed, first_thread, thread_at, Before, safe, looks, steps, calls, turn_over, nothing, before_act, before_return, before_here, before, room_for, Gone, past_if, ran_to, back, turn_done, ending_if, gone_from, gone, can_go}
+use Rattle.flat_meaning.specs.Stages.{Stage, starts, going, waiting, landed, first_thread, thread_at, Before, safe, looks, steps, calls, turn_over, nothing, before_act, before_return, before_here, before, room_for, Advance, past_safepoint, at_next_stop, back, turn_done, ending_if, advanced_from, advanced, can_advance}
 use Rattle.flat_meaning.specs.Effects as effects
 use Rattle.flat_meaning.specs.Effects.{Effect, no_effect, own_list_of, step_effect}
 use Rattle.flat_meaning.specs.Allowed.{StandsBefore}
@@ -27,7 +27,7 @@ use Rattle.flat_meaning.specs.Names.{Name}
 use Rattle.flat_meaning.specs.Stands.{in_blocks}
 use Rattle.flat_simulation.specs.inner.Values.{AnyBlock, KnownIn}
 use Rattle.flat_simulation.specs.inner.Turns.{Far}
-use Rattle.flat_simulation.specs.inner.Lags.{StandsIn, Reaches, comes, breaks}
+use Rattle.flat_simulation.specs.inner.Lags.{StandsIn, CatchesUpInTurn, comes, breaks}
 use Rattle.flat_simulation.specs.inner.Programs.{IsImage}
 use Rattle.flat_simulation.specs.inner.Worlds.{WorldStands}
 use Rattle.flat_simulation.specs.inner.Threads.{CallersStand, ThreadStands, Fresh, StartStands, StageStands, TurnsAlike}
@@ -46,7 +46,7 @@ use Rattle.flat_simulation.proofs.Settled.{settled_world, settled, settled_clear
 
 module _ {P : Type 0} (x : Image P) (thread : ℕ) where
   -- it has no faults
-  acted_no_fault : (k : P) (q : Words) (b : Bool) (f : flat.Fault) → stopped_or b (acted k (Ok q)) ≡ breaks f → ⊥
+  acted_no_fault : (k : P) (q : Words) (b : Bool) (f : flat.Fault) → stopped_or b (after_act k (Ok q)) ≡ breaks f → ⊥
   acted_no_fault k q true f e = absurd cc
   acted_no_fault k q false f e = absurd cc
 
@@ -68,7 +68,7 @@ EndsTurn round = Unit {0}
 EndsTurn (returns temp) = Unit {0}
 
 pub stops_there : {P : Type 0} (x : Image P) (p : Ir) (y : Point P Own) (h : Here) → EndsTurn h → ahead_at x.flow (blocks_machine p) y h ≡ stops
-stops_there x p y (does place a) e = ap (λ b. stopped_or b (acted (x.flow.next y.at true) (own_act p place a y.own))) e
+stops_there x p y (does place a) e = ap (λ b. stopped_or b (after_act (x.flow.next y.at true) (own_act p place a y.own))) e
 stops_there x p y (tests place temp) e = absurd e
 stops_there x p y passes e = absurd e
 stops_there x p y round e = refl
@@ -94,7 +94,7 @@ module _ {P : Type 0} (x : Image P) (p : Ir) (image : IsImage x p) (thread : ℕ
     pub stands : IsStanding k r
     pub stop : ahead x.flow (words_machine x.layout thread) r.top ≡ stops
 
-  ran : (k : Thread P Own) (q : Thread P Words) → IsStanding k q → (o : Result (Point P Words) flat.Fault) → run x.flow (words_machine x.layout thread) q.top ≡ o → HasRun k q (ran_to q o)
+  ran : (k : Thread P Own) (q : Thread P Words) → IsStanding k q → (o : Result (Point P Words) flat.Fault) → run x.flow (words_machine x.layout thread) q.top ≡ o → HasRun k q (at_next_stop q o)
   ran k q stand (Ok r) e = let path = words_run.stops_at q.top r e in record { stands = thread_goes x p image thread stand.stack names w m world k q stand r path.0; stop = path.1 }
   ran k q stand (Err f) e = let fault = words_run.breaks_at q.top f e in absurd (no_fault x thread fault.0 (x.flow.here fault.0.at) f fault.2)
 
@@ -191,7 +191,7 @@ module _ {P : Type 0} (x : Image P) (p : Ir) (image : IsImage x p) (thread : ℕ
         → whole ≡ stop_event x.flow (blocks_machine p) (blocks_world p thread) x.start answers.Plain (record { top = y; callers = k.callers }) (with_blocks w y.own.blocks)
     turn_is y e = ap (λ z. and_then (alone (blocks_world p thread) k.callers w z) (stop_event x.flow (blocks_machine p) (blocks_world p thread) x.start answers.Plain)) e
 
-    whole_ends : Reaches x p thread (length w.blocks) names w.blocks s k.top q.top → IsOver (before x q) → Alike whole (turn_done x q (x.flow.here q.top.at))
+    whole_ends : CatchesUpInTurn x p thread (length w.blocks) names w.blocks s k.top q.top → IsOver (before x q) → Alike whole (turn_done x q (x.flow.here q.top.at))
     whole_ends (breaks f e) over_ =
         let broken : whole ≡ broke f = ap (λ z. and_then (alone (blocks_world p thread) k.callers w z) (stop_event x.flow (blocks_machine p) (blocks_world p thread) x.start answers.Plain)) e in
         subst (λ o. Alike o (turn_done x q (x.flow.here q.top.at))) (sym broken) tt
@@ -208,7 +208,7 @@ module _ {P : Type 0} (x : Image P) (p : Ir) (image : IsImage x p) (thread : ℕ
     -- ---- a thread goes on
 
     -- the end of its turn, if there is room
-    abbrev entered_if : Bool → Gone P
+    abbrev entered_if : Bool → Advance P
     entered_if c = if c then record { thread = turn_done x q (x.flow.here q.top.at); turns = 1 } else record { thread = q; turns = 0 }
 
     -- it stands still where no turn has ended
@@ -239,21 +239,21 @@ module _ {P : Type 0} (x : Image P) (p : Ir) (image : IsImage x p) (thread : ℕ
     one_ends nothing is e = absurd cc
 
   -- from where it stands, up to its next stop or the end of its turn
-  gone_stands : (k : Thread P Own) (q : Thread P Words) → IsStanding k q → (gone_from x thread q).turns ≡ 0 → IsStanding k (gone_from x thread q).thread
+  gone_stands : (k : Thread P Own) (q : Thread P Words) → IsStanding k q → (advanced_from x thread q).turns ≡ 0 → IsStanding k (advanced_from x thread q).thread
   gone_stands k q stand e =
-      let r = ran_to q (run x.flow (words_machine x.layout thread) q.top) in
+      let r = at_next_stop q (run x.flow (words_machine x.layout thread) q.top) in
       still_stands k r (ran k q stand (run x.flow (words_machine x.layout thread) q.top) refl).stands (before x r) e
 
-  gone_ends : (k : Thread P Own) (q : Thread P Words) → IsStanding k q → (gone_from x thread q).turns ≡ 1
-      → TurnsAlike x p thread names [] None w m (turn x.flow (blocks_machine p) (blocks_world p thread) x.start answers.Plain k w) (went (gone_from x thread q).thread m)
+  gone_ends : (k : Thread P Own) (q : Thread P Words) → IsStanding k q → (advanced_from x thread q).turns ≡ 1
+      → TurnsAlike x p thread names [] None w m (turn x.flow (blocks_machine p) (blocks_world p thread) x.start answers.Plain k w) (went (advanced_from x thread q).thread m)
   gone_ends k q stand e =
-      let r = ran_to q (run x.flow (words_machine x.layout thread) q.top) in
+      let r = at_next_stop q (run x.flow (words_machine x.layout thread) q.top) in
       one_ends k r (ran k q stand (run x.flow (words_machine x.layout thread) q.top) refl).stands (before x r) refl e
 
   -- ---- by its stage
 
   -- past a safepoint
-  past_act : (k : Thread P Own) (q : Thread P Words) → IsStanding k q → (place : ℕ) (a : Act) → x.flow.here q.top.at ≡ does place a → IsStanding k (past_if x q (before_act a))
+  past_act : (k : Thread P Own) (q : Thread P Words) → IsStanding k q → (place : ℕ) (a : Act) → x.flow.here q.top.at ≡ does place a → IsStanding k (past_safepoint x q (before_act a))
   past_act k q stand place (safepoint slots) e = thread_safe x p image thread stand.stack names w m world k q stand place slots e
   past_act k q stand place (set to calc) e = stand
   past_act k q stand place (call c) e = stand
@@ -262,11 +262,11 @@ module _ {P : Type 0} (x : Image P) (p : Ir) (image : IsImage x p) (thread : ℕ
   past_act k q stand place (begin_object i) e = stand
   past_act k q stand place (end_object i) e = stand
 
-  past_return : (k : Thread P Own) (q : Thread P Words) → IsStanding k q → (qs : List (Point P Words)) → IsStanding k (past_if x q (before_return qs))
+  past_return : (k : Thread P Own) (q : Thread P Words) → IsStanding k q → (qs : List (Point P Words)) → IsStanding k (past_safepoint x q (before_return qs))
   past_return k q stand [] = stand
   past_return k q stand (c ∷ qs) = stand
 
-  past_here : (k : Thread P Own) (q : Thread P Words) → IsStanding k q → (h : Here) → x.flow.here q.top.at ≡ h → IsStanding k (past_if x q (before_here q.callers h))
+  past_here : (k : Thread P Own) (q : Thread P Words) → IsStanding k q → (h : Here) → x.flow.here q.top.at ≡ h → IsStanding k (past_safepoint x q (before_here q.callers h))
   past_here k q stand (does place a) e = past_act k q stand place a e
   past_here k q stand (tests place temp) e = stand
   past_here k q stand passes e = stand
@@ -289,25 +289,25 @@ module _ {P : Type 0} (x : Image P) (p : Ir) (image : IsImage x p) (thread : ℕ
   abbrev Standing : Thread P Own → Stage P → Type 0
   Standing k g = StageStands x p thread names w.blocks s (Some k) (Some g)
 
-  pub goes_on : (k : Thread P Own) (g : Stage P) → Standing k g → can_go x g ≡ true → (gone x thread g).turns ≡ 0 → IsStanding k (gone x thread g).thread
+  pub goes_on : (k : Thread P Own) (g : Stage P) → Standing k g → can_advance x g ≡ true → (advanced x thread g).turns ≡ 0 → IsStanding k (advanced x thread g).thread
   goes_on k (starts function argument) stand can e = gone_stands k (first_thread x function argument) (begins_stands k function argument stand can) e
-  goes_on k (going q) stand can e = gone_stands k (past_if x q (before x q)) (past_here k q stand (x.flow.here q.top.at) refl) e
-  goes_on k (waiting q) stand can e = gone_stands k (past_if x q (before x q)) (past_here k q stand (x.flow.here q.top.at) refl) e
+  goes_on k (going q) stand can e = gone_stands k (past_safepoint x q (before x q)) (past_here k q stand (x.flow.here q.top.at) refl) e
+  goes_on k (waiting q) stand can e = gone_stands k (past_safepoint x q (before x q)) (past_here k q stand (x.flow.here q.top.at) refl) e
   goes_on k (landed list q) stand can e =
-      gone_stands k (past_if x q (before x q)) (past_here k q (fresh_thread x p thread names w.blocks s k q world.blocks.names_stand.each stand.fresh) (x.flow.here q.top.at) refl) e
+      gone_stands k (past_safepoint x q (before x q)) (past_here k q (fresh_thread x p thread names w.blocks s k q world.blocks.names_stand.each stand.fresh) (x.flow.here q.top.at) refl) e
 
-  pub ends : (k : Thread P Own) (g : Stage P) → Standing k g → can_go x g ≡ true → (gone x thread g).turns ≡ 1
-      → TurnsAlike x p thread names [] None w m (turn x.flow (blocks_machine p) (blocks_world p thread) x.start answers.Plain k w) (went (gone x thread g).thread m)
+  pub ends : (k : Thread P Own) (g : Stage P) → Standing k g → can_advance x g ≡ true → (advanced x thread g).turns ≡ 1
+      → TurnsAlike x p thread names [] None w m (turn x.flow (blocks_machine p) (blocks_world p thread) x.start answers.Plain k w) (went (advanced x thread g).thread m)
   ends k (starts function argument) stand can e = gone_ends k (first_thread x function argument) (begins_stands k function argument stand can) e
-  ends k (going q) stand can e = gone_ends k (past_if x q (before x q)) (past_here k q stand (x.flow.here q.top.at) refl) e
-  ends k (waiting q) stand can e = gone_ends k (past_if x q (before x q)) (past_here k q stand (x.flow.here q.top.at) refl) e
+  ends k (going q) stand can e = gone_ends k (past_safepoint x q (before x q)) (past_here k q stand (x.flow.here q.top.at) refl) e
+  ends k (waiting q) stand can e = gone_ends k (past_safepoint x q (before x q)) (past_here k q stand (x.flow.here q.top.at) refl) e
   ends k (landed list q) stand can e =
-      gone_ends k (past_if x q (before x q)) (past_here k q (fresh_thread x p thread names w.blocks s k q world.blocks.names_stand.each stand.fresh) (x.flow.here q.top.at) refl) e
+      gone_ends k (past_safepoint x q (before x q)) (past_here k q (fresh_thread x p thread names w.blocks s k q world.blocks.names_stand.each stand.fresh) (x.flow.here q.top.at) refl) e
 
   -- ---- a Look
 
   abbrev look_at : Stage P → Thread P Words → Here → Effect P
-  look_at g q h = effects.acted thread g q (own_list_of h) m (stop_at x.flow (words_machine x.layout thread) (words_world x.layout thread) x.start flat.plain q m h)
+  look_at g q h = effects.effect_of_outcome thread g q (own_list_of h) m (stop_at x.flow (words_machine x.layout thread) (words_world x.layout thread) x.start flat.plain q m h)
 
   -- what a Look leaves
   abbrev Looked : Thread P Own → Stage P → Thread P Words → Here → Type 0

@@ -16,7 +16,7 @@ use Rattle.flat_meaning.specs.Image.{Layout, Image}
 use Rattle.flat_meaning.specs.Words.{Words}
 use Rattle.flat_meaning.specs.Accesses.{Fault}
 use Rattle.flat_meaning.specs.Machine.{words_machine, left}
-use Rattle.flat_meaning.specs.Stages.{Before, safe, looks, steps, calls, turn_over, nothing, before_act, before_return, before_here, before, room_for, Gone, past_if, ran_to, turn_done, ending_if, gone_from, goes_alone}
+use Rattle.flat_meaning.specs.Stages.{Before, safe, looks, steps, calls, turn_over, nothing, before_act, before_return, before_here, before, room_for, Advance, past_safepoint, at_next_stop, turn_done, ending_if, advanced_from, can_pass}
 use Rattle.flat_meaning.proofs.Halves.{marks_are_idle, NoFault, no_fault}
 use Rattle.flat_meaning.specs.Emitted.{AreOne, IsSafepoint, CallsAreGuarded}
 use Rattle.flat_simulation.specs.inner.Level.{image, same, level, GonesMatch}
@@ -48,7 +48,7 @@ unseen_nothing callers round u = absurd u
 unseen_nothing callers (returns temp) u = absurd u
 
 -- what a turn comes to that ends before what stands there
-abbrev ended_at : {P : Type 0} → Image P → Thread P Words → Here → Before → Gone P
+abbrev ended_at : {P : Type 0} → Image P → Thread P Words → Here → Before → Advance P
 ended_at x t h (calls function) = if room_for x t function then record { thread = turn_done x t h; turns = 1 } else record { thread = t; turns = 0 }
 ended_at x t h turn_over = record { thread = turn_done x t h; turns = 1 }
 ended_at x t h other = record { thread = t; turns = 0 }
@@ -98,7 +98,7 @@ module _ {P Q : Type 0} (Y : Layout) (C : Flow P) (D : Flow Q) (code : ℕ → P
   pub before_same : (t : Thread P Words) (u : Thread Q Words) → Same t u → before y u ≡ before x t
   before_same t u s = ap (before_here u.callers) s.top.same.here ∙ here_same t.callers u.callers s.callers (C.here t.top.at)
 
-  alone_same : (t : Thread P Words) (u : Thread Q Words) → u.top.own ≡ t.top.own → (b : Before) → goes_alone y u b ≡ goes_alone x t b
+  alone_same : (t : Thread P Words) (u : Thread Q Words) → u.top.own ≡ t.top.own → (b : Before) → can_pass y u b ≡ can_pass x t b
   alone_same t u e safe = refl
   alone_same t u e looks = refl
   alone_same t u e steps = refl
@@ -106,8 +106,8 @@ module _ {P Q : Type 0} (Y : Layout) (C : Flow P) (D : Flow Q) (code : ℕ → P
   alone_same t u e turn_over = refl
   alone_same t u e nothing = refl
 
-  pub goes_same : (t : Thread P Words) (u : Thread Q Words) → Same t u → goes_alone y u (before y u) ≡ goes_alone x t (before x t)
-  goes_same t u s = ap (goes_alone y u) (before_same t u s) ∙ alone_same t u s.top.own (before x t)
+  pub goes_same : (t : Thread P Words) (u : Thread Q Words) → Same t u → can_pass y u (before y u) ≡ can_pass x t (before x t)
+  goes_same t u s = ap (can_pass y u) (before_same t u s) ∙ alone_same t u s.top.own (before x t)
 
   -- level threads stand before the same, or nothing is to be seen where the first stands
   pub data Lag (t : Thread P Words) (u : Thread Q Words) : Type 0 where
@@ -126,7 +126,7 @@ module _ {P Q : Type 0} (Y : Layout) (C : Flow P) (D : Flow Q) (code : ℕ → P
 
   -- ---- past a safepoint
 
-  past_at : (t : Thread P Words) (u : Thread Q Words) → Same t u → (b : Before) → before x t ≡ b → Level (past_if x t b) (past_if y u b)
+  past_at : (t : Thread P Words) (u : Thread Q Words) → Same t u → (b : Before) → before x t ≡ b → Level (past_safepoint x t b) (past_safepoint y u b)
   past_at t u s safe e = record { top = record { at = s.top.same.next (safe_stays t.callers (C.here t.top.at) e) true; own = s.top.own }; callers = s.callers }
   past_at t u s looks e = same_level t u s
   past_at t u s steps e = same_level t u s
@@ -134,8 +134,8 @@ module _ {P Q : Type 0} (Y : Layout) (C : Flow P) (D : Flow Q) (code : ℕ → P
   past_at t u s turn_over e = same_level t u s
   past_at t u s nothing e = same_level t u s
 
-  pub past_same : (t : Thread P Words) (u : Thread Q Words) → Same t u → Level (past_if x t (before x t)) (past_if y u (before y u))
-  past_same t u s = subst (λ b. Level (past_if x t (before x t)) (past_if y u b)) (sym (before_same t u s)) (past_at t u s (before x t) refl)
+  pub past_same : (t : Thread P Words) (u : Thread Q Words) → Same t u → Level (past_safepoint x t (before x t)) (past_safepoint y u (before y u))
+  past_same t u s = subst (λ b. Level (past_safepoint x t (before x t)) (past_safepoint y u b)) (sym (before_same t u s)) (past_at t u s (before x t) refl)
 
   -- ---- a run
 
@@ -147,12 +147,12 @@ module _ {P Q : Type 0} (Y : Layout) (C : Flow P) (D : Flow Q) (code : ℕ → P
     mirror = follows_mirrors C D M R (marks_are_idle Y thread) one.follows
 
     abbrev pub ran : Thread P Words → Thread P Words
-    ran t = ran_to t (run C M t.top)
+    ran t = at_next_stop t (run C M t.top)
 
     abbrev pub ran' : Thread Q Words → Thread Q Words
-    ran' u = ran_to u (run D M u.top)
+    ran' u = at_next_stop u (run D M u.top)
 
-    ran_ends : (t : Thread P Words) (u : Thread Q Words) → SameCallers C D R t.callers u.callers → (o : Result (Point P Words) Fault) (o' : Result (Point Q Words) Fault) → NoFault x thread o → EndAlike C D R o o' → Same (ran_to t o) (ran_to u o')
+    ran_ends : (t : Thread P Words) (u : Thread Q Words) → SameCallers C D R t.callers u.callers → (o : Result (Point P Words) Fault) (o' : Result (Point Q Words) Fault) → NoFault x thread o → EndAlike C D R o o' → Same (at_next_stop t o) (at_next_stop u o')
     ran_ends t u cs (Ok p) (Ok q) n h = record { top = record { at = h.1; same = h.2; own = h.0 }; callers = cs }
     ran_ends t u cs (Ok p) (Err f) n h = absurd h
     ran_ends t u cs (Err f) o' n h = absurd n
@@ -190,7 +190,7 @@ module _ {P Q : Type 0} (Y : Layout) (C : Flow P) (D : Flow Q) (code : ℕ → P
       abbrev u1 : Thread Q Words
       u1 = record { top = record { at = j; own = l }; callers = qs }
 
-      abbrev Gones : Gone P → Gone Q → Type 0
+      abbrev Gones : Advance P → Advance Q → Type 0
       Gones g h = GonesMatch C D R g h
 
       still : Gones (record { thread = t1; turns = 0 }) (record { thread = u1; turns = 0 })
@@ -242,12 +242,12 @@ module _ {P Q : Type 0} (Y : Layout) (C : Flow P) (D : Flow Q) (code : ℕ → P
         (both_end t.top.at u.top.at t.top.own t.callers u.callers s.top.at s.top.same s.callers)
 
     -- level threads go on alone alike, past nothing
-    pub gone_level : (thread : ℕ) (t : Thread P Words) (u : Thread Q Words) → Level t u → GonesMatch C D R (gone_from x thread t) (gone_from y thread u)
+    pub gone_level : (thread : ℕ) (t : Thread P Words) (u : Thread Q Words) → Level t u → GonesMatch C D R (advanced_from x thread t) (advanced_from y thread u)
     gone_level thread t u h = same_end (ran thread t) (ran' thread u) (ran_level thread t u h)
 
     -- so do threads that stand before the same, past a safepoint
-    pub gone_same : (thread : ℕ) (t : Thread P Words) (u : Thread Q Words) → Same t u → GonesMatch C D R (gone_from x thread (past_if x t (before x t))) (gone_from y thread (past_if y u (before y u)))
-    gone_same thread t u s = gone_level thread (past_if x t (before x t)) (past_if y u (before y u)) (past_same t u s)
+    pub gone_same : (thread : ℕ) (t : Thread P Words) (u : Thread Q Words) → Same t u → GonesMatch C D R (advanced_from x thread (past_safepoint x t (before x t))) (advanced_from y thread (past_safepoint y u (before y u)))
+    gone_same thread t u s = gone_level thread (past_safepoint x t (before x t)) (past_safepoint y u (before y u)) (past_same t u s)
 
     -- ---- a thread that lags
 
@@ -275,7 +275,7 @@ module _ {P Q : Type 0} (Y : Layout) (C : Flow P) (D : Flow Q) (code : ℕ → P
 
     -- it is where a run of it stops
     held_ran : (thread : ℕ) (u : Thread Q Words) → IsHeld u (before y u) → ran' thread u ≡ u
-    held_ran thread u h = ap (ran_to u) (unfolds D one.shrinks.1 (M thread) u.top ∙ ap (further (run D (M thread)) u.top) (held_stops thread u (D.here u.top.at) h))
+    held_ran thread u h = ap (at_next_stop u) (unfolds D one.shrinks.1 (M thread) u.top ∙ ap (further (run D (M thread)) u.top) (held_stops thread u (D.here u.top.at) h))
 
     held_ends : (t : Thread P Words) (u : Thread Q Words) → u.top.own ≡ t.top.own → (b : Before) → IsHeld u b → ending_if x t b ≡ record { thread = t; turns = 0 }
     held_ends t u e safe h = refl
@@ -288,7 +288,7 @@ module _ {P Q : Type 0} (Y : Layout) (C : Flow P) (D : Flow Q) (code : ℕ → P
     held_ends t u e nothing h = absurd h
 
     -- the first thread comes to where the second is held
-    pub comes_there : (thread : ℕ) (t : Thread P Words) (u : Thread Q Words) → Level t u → IsHeld u (before y u) → (q : Thread P Words) × (gone_from x thread t ≡ record { thread = q; turns = 0 }) × Same q u
+    pub comes_there : (thread : ℕ) (t : Thread P Words) (u : Thread Q Words) → Level t u → IsHeld u (before y u) → (q : Thread P Words) × (advanced_from x thread t ≡ record { thread = q; turns = 0 }) × Same q u
     comes_there thread t u l h =
         let q = ran thread t in
         let s : Same q u = subst (λ v. Same q v) (held_ran thread u h) (ran_level thread t u l) in

@@ -18,12 +18,12 @@ use Rattle.struct_ir.specs.meaning.Threads.{program_of, start_in}
 use Rattle.flat_meaning.specs.Image.{Limits, Image, limits_for, structured_image}
 use Rattle.flat_meaning.specs.Accesses.{Choice}
 use Rattle.flat_meaning.specs.Stages.{Stage, steps, thread_at, before}
-use Rattle.flat_meaning.specs.Events.{State, Event, act, after, after_all, first_state}
+use Rattle.flat_meaning.specs.Events.{MachineState, Event, act, after, after_all, first_state}
 use Rattle.flat_meaning.specs.Order.{picks_of, tried_by, order_of}
 use Rattle.flat_meaning.specs.Allowed.{StandsBefore, IsAllowed, AreAllowed}
 use Rattle.flat_meaning.specs.Emitted.{AreOne, ComeToTheSame, CallsAreGuarded}
 use Rattle.flat_meaning.specs.Names.{Name}
-use Rattle.flat_meaning.specs.Reaching.{Unbroken, Waits, Broken, StaysInBlocks, reached_in}
+use Rattle.flat_meaning.specs.Reaching.{Unbroken, Waits, Broken, StaysInBlocks, reached_by_turn}
 use Rattle.flat_meaning.specs.Stands.{PointStands, WorldStands, StageStands}
 use Rattle.flat_meaning.specs.Simulation.{AllComeOut, IsTrap}
 use Rattle.flat_meaning.specs.Start.{ids_of, AreMadeBy}
@@ -75,20 +75,20 @@ module _ (p : Ir) (limits : Limits) (its : IsImage (structured_image p limits) p
   abbrev P : runs.Program (Thread Position Own)
   P = program_of p
 
-  all_come : (es : List Event) (s : State Position) → StateComes p limits s → StateComes p limits (after_all x es s)
+  all_come : (es : List Event) (s : MachineState Position) → StateComes p limits s → StateComes p limits (after_all x es s)
   all_come [] s come = come
   all_come (e ∷ es) s come = all_come es (after x s e) (after_comes p limits s e come)
 
-  module _ (names : List Name) (n : ℕ) (u : runs.State (Thread Position Own)) (s : State Position) (now : Stood p limits its keep names u s) where
+  module _ (names : List Name) (n : ℕ) (u : runs.State (Thread Position Own)) (s : MachineState Position) (now : Stood p limits its keep names u s) where
     -- events that make no turn leave the source where it is
-    no_turn : (later : State Position) (leads : Leads x s later [] [] []) → Next p limits names (ids_of leads.events) later u
+    no_turn : (later : MachineState Position) (leads : Leads x s later [] [] []) → Next p limits names (ids_of leads.events) later u
     no_turn later leads =
-        subst (λ (q : State Position). Next p limits names (ids_of leads.events) q u) leads.ends
+        subst (λ (q : MachineState Position). Next p limits names (ids_of leads.events) q u) leads.ends
         (subst (λ picks. UpToAKindFrom p picks n u (Next p limits names (ids_of leads.events) (after_all x leads.events s))) leads.order
         (all_stand p limits its keep leads.events names n u s now leads.allowed))
 
     -- and the same names
-    still_stands : (later : State Position) → Leads x s later [] [] [] → StateStands x p names u later
+    still_stands : (later : MachineState Position) → Leads x s later [] [] [] → StateStands x p names u later
     still_stands later leads =
         let next = no_turn later leads in
         let each : length next.all ≡ length names = next.stands.world.blocks.names_stand.each ∙ sym now.stand.world.blocks.names_stand.each in
@@ -96,7 +96,7 @@ module _ (p : Ir) (limits : Limits) (its : IsImage (structured_image p limits) p
 
     -- ---- beside linear code
 
-    module _ (D : Flow Spot) (code' : ℕ → Spot) (R : Position → Spot → Type 0) (one : AreOne x (image D code' x.layout) R) (guarded : CallsAreGuarded (image D code' x.layout)) (r : State Spot) (match : StatesMatch structured D R s r) where
+    module _ (D : Flow Spot) (code' : ℕ → Spot) (R : Position → Spot → Type 0) (one : AreOne x (image D code' x.layout) R) (guarded : CallsAreGuarded (image D code' x.layout)) (r : MachineState Spot) (match : StatesMatch structured D R s r) where
       abbrev y : Image Spot
       y = image D code' x.layout
 
@@ -126,7 +126,7 @@ module _ (p : Ir) (limits : Limits) (its : IsImage (structured_image p limits) p
             stands = subst (λ (T : Type 0). T) (λ i. PointStands x k.thread (names ++ z.made) (sym a.memory i).storage z.stop (record { at = z.stands.here i; own = sym g.same.top.own i })) z.stands;
             begun = owns.begun;
             reaches = subst (λ (T : Type 0). T)
-                (λ i. StaysInBlocks (names ++ z.made) (sym a.memory i).storage (touched_at x.layout (sym g.same.top.own i) (sym a.memory i) (sym g.same.top.same.here i)) (reached_in u.world z.stop.own (structured.here z.stop.at) (picked P u k))) z.reaches;
+                (λ i. StaysInBlocks (names ++ z.made) (sym a.memory i).storage (touched_at x.layout (sym g.same.top.own i) (sym a.memory i) (sym g.same.top.same.here i)) (reached_by_turn u.world z.stop.own (structured.here z.stop.at) (picked P u k))) z.reaches;
           }
 
           abbrev Reaching : Pick → Type 0

@@ -15,7 +15,7 @@ use Rattle.flat_meaning.specs.Words.{Words}
 use Rattle.flat_meaning.specs.Stages.{Stage, starts, going, waiting, landed, first_thread, thread_at}
 use Rattle.flat_meaning.specs.Names.{Name}
 use Rattle.flat_meaning.specs.Stands as public
-use Rattle.flat_meaning.specs.Stands.{in_blocks, OwnStands, PointStands, Ages, Lags}
+use Rattle.flat_meaning.specs.Stands.{in_blocks, OwnStands, PointStands, Ages, CatchesUp}
 use Rattle.flat_simulation.specs.LinearSteps.{source_image, TopLies, comes, breaks, CallersLie, StackLies}
 use Rattle.flat_simulation.specs.inner.Level.{image, Near, same, level, StagesMatch}
 use Rattle.flat_simulation.proofs.TurnsStand.{still_first}
@@ -30,7 +30,7 @@ module _ (Y : Layout) (p : Ir) (D : Flow Spot) (code' : ℕ → Spot) (R : Posit
   abbrev Lies : Thread Position Own → Thread Spot Words → Type 0
   Lies k u = StackLies x p thread names blocks k u
 
-  top_lies : (k : Point Position Own) (q : Point Position Words) → Lags x p thread names blocks blocks s k q → TopLies x p thread names blocks k q.own
+  top_lies : (k : Point Position Own) (q : Point Position Words) → CatchesUp x p thread names blocks blocks s k q → TopLies x p thread names blocks k q.own
   top_lies k q (public.comes stop made steps at known) = comes stop made steps at.own
   top_lies k q (public.breaks f e) = breaks f e
 

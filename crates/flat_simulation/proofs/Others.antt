@@ -20,7 +20,7 @@ use Rattle.flat_simulation.specs.inner.Aged.{Aged}
 use Rattle.flat_simulation.specs.inner.Values.{KnownIn, Points, Stands}
 use Rattle.flat_simulation.specs.inner.Calls.{CallStands, objects_in, object_size}
 use Rattle.flat_simulation.specs.inner.Turns.{IsClear, Far}
-use Rattle.flat_simulation.specs.inner.Lags.{Reaches, comes, breaks, InTurn, IsAside, KeepsSlot, KeepsCall, LieLow}
+use Rattle.flat_simulation.specs.inner.Lags.{CatchesUpInTurn, comes, breaks, InTurn, IsAside, KeepsSlot, KeepsCall, LieLow}
 use Rattle.flat_simulation.proofs.Facts.{listed_fact}
 use Rattle.flat_simulation.proofs.Blocks.{aged_still, aged_then, aged_name}
 use Rattle.flat_simulation.proofs.Names.{lives_there}
@@ -100,7 +100,7 @@ module _ {P : Type 0} (x : Image P) (p : Ir) (thread : ℕ) (names all : List Na
     slot_later unset word v keeps stands agrees = tt
     slot_later missing word v keeps stands agrees = tt
 
-  reaches_later : (k : Point P Own) (q : Point P Words) → LieLow x.layout p thread q.own → KeepsCall x.flow all blocks later s new q → Reaches x p thread (length blocks) first start s k q → Reaches x p thread (length later) first start new k q
+  reaches_later : (k : Point P Own) (q : Point P Words) → LieLow x.layout p thread q.own → KeepsCall x.flow all blocks later s new q → CatchesUpInTurn x p thread (length blocks) first start s k q → CatchesUpInTurn x p thread (length later) first start new k q
   reaches_later k q low keeps (breaks f e) = breaks f e
   reaches_later k q low keeps (comes y n steps far stands) =
       comes y n steps (far_later n y.own q.own stands.call far low) (record {

@@ -13,7 +13,7 @@ use Rattle.struct_ir.specs.Structured.{Position, structured}
 use Rattle.flat_meaning.specs.Image.{structured_image}
 use Rattle.flat_meaning.specs.Stages.{Stage}
 use Rattle.flat_meaning.specs.Allowed.{pinned, stands, AllStand}
-use Rattle.flat_meaning.specs.Events.{State}
+use Rattle.flat_meaning.specs.Events.{MachineState}
 use Rattle.flat_simulation.specs.PinRows.{stands_after, main_of, reusing, one_id, first_round, ReuseRowsHold, CopyRowsHold, nested, room_for_four, nested_calls, NestedRowsHold}
 
 -- what holds of the one stage there is
@@ -23,7 +23,7 @@ is_that C s t h e = cc
 -- ---- an id that is used again
 
 -- the state at the safepoint of the first round
-abbrev in_round : State Position
+abbrev in_round : MachineState Position
 in_round = stands_after (structured_image (main_of 10 reusing) one_id) first_round
 
 stands_in_round : AllStand structured in_round.own
@@ -58,7 +58,7 @@ fits_at_48 = record { inside = (omega arith, omega arith); clear = clear }
     clear (suc (suc (suc k))) d h = absurd (omega (arith, h))
 
 -- the state at the safepoint of the last call
-abbrev in_last : State Position
+abbrev in_last : MachineState Position
 in_last = stands_after (structured_image nested room_for_four) nested_calls
 
 stands_in_last : AllStand structured in_last.own

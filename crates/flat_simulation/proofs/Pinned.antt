@@ -22,7 +22,7 @@ use Rattle.struct_ir.specs.meaning.Blocks.{Own}
 use Rattle.flat_meaning.specs.Image.{Image}
 use Rattle.flat_meaning.specs.Words.{Words}
 use Rattle.flat_meaning.specs.Stages.{Stage, starts, going, waiting, landed}
-use Rattle.flat_meaning.specs.Events.{State}
+use Rattle.flat_meaning.specs.Events.{MachineState}
 use Rattle.flat_meaning.specs.Allowed.{list_at, handles_in, handles_here, handles_of, handles_if, pinned, stands}
 use Rattle.flat_meaning.specs.Names.{Name, heap, plain, name_of, word_for, address_if, IsOutside}
 use Rattle.flat_simulation.specs.inner.Lags.{KeepsSlot, KeepsCall, KeepCalls}
@@ -93,7 +93,7 @@ is_pinned s w at (v ∷ ws) (inr i) e = by_place (place_named s v) (is_pinned s 
 
 -- ---- slots
 
-module _ {P : Type 0} (x : Image P) (st : State P) (names : List Name) (blocks : Blocks) (stand : BlocksStand names blocks st.memory.storage) (moves : List Move) (new : Storage) (consistent : IsConsistent new)
+module _ {P : Type 0} (x : Image P) (st : MachineState P) (names : List Name) (blocks : Blocks) (stand : BlocksStand names blocks st.memory.storage) (moves : List Move) (new : Storage) (consistent : IsConsistent new)
     (kept : KeepsObjects (pinned x st) moves st.memory.storage new) where
   abbrev s : Storage
   s = st.memory.storage

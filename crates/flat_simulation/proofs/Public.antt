@@ -15,14 +15,14 @@ use Rattle.struct_ir.specs.meaning.Threads.{first_own}
 use Rattle.flat_meaning.specs.Image.{Image}
 use Rattle.flat_meaning.specs.Words.{Words, word_at}
 use Rattle.flat_meaning.specs.Stages.{Stage, starts, going, waiting, landed, first_thread}
-use Rattle.flat_meaning.specs.Events.{State}
+use Rattle.flat_meaning.specs.Events.{MachineState}
 use Rattle.flat_meaning.specs.Names.{Name}
 use Rattle.flat_meaning.specs.Stands as public
 use Rattle.flat_meaning.specs.Stands.{in_blocks}
 use Rattle.flat_simulation.specs.inner.Aged.{Aged}
 use Rattle.flat_simulation.specs.inner.Values.{AnyBlock, KnownIn, Stands}
 use Rattle.flat_simulation.specs.inner.Calls.{CallStands}
-use Rattle.flat_simulation.specs.inner.Lags.{StandsIn, Reaches, comes, breaks, InTurn}
+use Rattle.flat_simulation.specs.inner.Lags.{StandsIn, CatchesUpInTurn, comes, breaks, InTurn}
 use Rattle.flat_simulation.specs.inner.Programs.{IsImage}
 use Rattle.flat_simulation.specs.inner.Threads.{CallersStand, ThreadStands, StartStands, LandedStands, StageStands, StateStands}
 use Rattle.flat_simulation.proofs.Entered.{first_call_stands}
@@ -60,14 +60,14 @@ module _ {P : Type 0} (x : Image P) (p : Ir) (thread : ℕ) where
   is_known : (names : List Name) (K : ℕ → Type 0) (blocks : Blocks) (block offset : ℕ) (h : Held) (word : ℕ) → Stands names K blocks h word → h ≡ value (values.Pointer (To block offset)) → K block
   is_known names K blocks block offset h word stand e = (subst (λ z. Stands names K blocks z word) e stand).known
 
-  lags : (all : List Name) (blocks later : Blocks) (s : Storage) (k : Point P Own) (q : Point P Words) → Reaches x p thread (length blocks) all later s k q → public.Lags x p thread all blocks later s k q
+  lags : (all : List Name) (blocks later : Blocks) (s : Storage) (k : Point P Own) (q : Point P Words) → CatchesUpInTurn x p thread (length blocks) all later s k q → public.CatchesUp x p thread all blocks later s k q
   lags all blocks later s k q (breaks f e) = public.breaks f e
   lags all blocks later s k q (comes y n path far at) =
       let first = far.aged.first in
       public.comes y first.0 path (point_stands (all ++ first.0) (KnownIn (length blocks) (length later)) s y q (subst (λ z. StandsIn x p thread z (KnownIn (length blocks) (length later)) s y q) first.1 at))
       (λ r block offset below e. is_known n (KnownIn (length blocks) (length later)) y.own.blocks block offset (y.own.temps r) (word_at q.own r) (at.call.temps r below) e)
 
-  reaches : (names : List Name) (blocks : Blocks) (s : Storage) (k : Point P Own) (q : Point P Words) → length names ≡ length blocks → InTurn x p thread names blocks s k q → public.Reaches x p thread names blocks s k q
+  reaches : (names : List Name) (blocks : Blocks) (s : Storage) (k : Point P Own) (q : Point P Words) → length names ≡ length blocks → InTurn x p thread names blocks s k q → public.AlwaysCatchesUp x p thread names blocks s k q
   reaches names blocks s k q each turn later all ages first each_later = lags all blocks later s k q (turn all later (record { ages = ages; first = first; each = each; each_later = each_later }))
 
   thread_stands : (names : List Name) (blocks : Blocks) (s : Storage) (k : Thread P Own) (q : Thread P Words) → length names ≡ length blocks → ThreadStands x p thread names blocks s k q → public.ThreadStands x p thread names blocks s k q
@@ -95,7 +95,7 @@ module _ {P : Type 0} (x : Image P) (p : Ir) (thread : ℕ) where
         begins : Point P Own
         begins = record { at = x.start function; own = first_own p function stand.pointer }
 
-        at_first : (later : Blocks) (all : List Name) → Aged names all blocks later → public.Lags x p thread all blocks later s begins (first_thread x function argument).top
+        at_first : (later : Blocks) (all : List Name) → Aged names all blocks later → public.CatchesUp x p thread all blocks later s begins (first_thread x function argument).top
         at_first later all aged =
             let pointer = pointer_later names all blocks later aged AnyBlock (KnownIn (length blocks) (length later)) (λ block lt kn. inl lt) stand.pointer argument stand.argument_stands in
             let call = first_call_stands x p image function stand.func stand.there thread all (KnownIn (length blocks) (length later)) later stand.pointer argument pointer in
@@ -115,7 +115,7 @@ module _ {P : Type 0} (x : Image P) (p : Ir) (thread : ℕ) where
     stage_stands names blocks s each None None stand = tt
 
 -- the state of the machine stands for the source's
-pub state_stands : {P : Type 0} (x : Image P) (p : Ir) → IsImage x p → (names : List Name) (u : runs.State (Thread P Own)) (s : State P) → StateStands x p names u s → public.StandsFor x p names u s
+pub state_stands : {P : Type 0} (x : Image P) (p : Ir) → IsImage x p → (names : List Name) (u : runs.State (Thread P Own)) (s : MachineState P) → StateStands x p names u s → public.StandsFor x p names u s
 state_stands x p image names u s stand = record {
   world = world_agrees x.layout p names u.world s.memory stand.world;
   count = stand.count;

@@ -17,7 +17,7 @@ use Rattle.ak_trace.specs.declared.endings.End.{End}
 use Rattle.flat_meaning.specs.Image.{Limits, Image, structured_image}
 use Rattle.flat_meaning.specs.Memory.{Made, Memory}
 use Rattle.flat_meaning.specs.Stages.{Stage}
-use Rattle.flat_meaning.specs.Events.{State, stage_made, new_stages, end_or, put}
+use Rattle.flat_meaning.specs.Events.{MachineState, stage_made, new_stages, end_or, put}
 use Rattle.flat_meaning.specs.Names.{Name}
 use Rattle.flat_simulation.specs.inner.Programs.{IsImage}
 use Rattle.flat_simulation.specs.inner.Worlds.{MadeStands, AllMadeStand, IsBorn, TurnEnded}
@@ -55,7 +55,7 @@ module _ (p : Ir) (limits : Limits) (image : IsImage (structured_image p limits)
   abbrev P : runs.Program (Thread Position Own)
   P = program_of p
 
-  module _ (names : List Name) (u : runs.State (Thread Position Own)) (s : State Position) (stand : StateStands x p names u s) (thread : ℕ) (within : thread < length s.own) where
+  module _ (names : List Name) (u : runs.State (Thread Position Own)) (s : MachineState Position) (stand : StateStands x p names u s) (thread : ℕ) (within : thread < length s.own) where
     -- ---- no turn
 
     none_new : new_stages s.own s.memory ≡ []

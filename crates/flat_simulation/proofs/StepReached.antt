@@ -23,7 +23,7 @@ use Rattle.flat_meaning.specs.Order.{pick, action_answer, answer_here, answer_of
 use Rattle.flat_meaning.specs.Names.{Name}
 use Rattle.flat_meaning.specs.Stands.{PointStands}
 use Rattle.flat_meaning.specs.Touched.{Touched, touched_at}
-use Rattle.flat_meaning.specs.Reaching.{action_reads, reached_in, StaysInBlocks, StepReaches, Unbroken}
+use Rattle.flat_meaning.specs.Reaching.{action_reads, reached_by_turn, StaysInBlocks, StepReaches, Unbroken}
 use Rattle.flat_simulation.specs.inner.Programs.{IsImage}
 use Rattle.flat_simulation.specs.inner.Worlds.{WorldStands}
 use Rattle.flat_simulation.specs.inner.Threads.{ThreadStands}
@@ -67,7 +67,7 @@ module _ (p : Ir) (limits : Limits) (image : IsImage (structured_image p limits)
 
     -- what its turn reaches
     abbrev Within : Stop → Outcome Position Own Fault World → Type 0
-    Within t o = StaysInBlocks t.made_names m.storage (touched_at x.layout q.top.own m h) (reached_in w t.own h (Some (turned o)))
+    Within t o = StaysInBlocks t.made_names m.storage (touched_at x.layout q.top.own m h) (reached_by_turn w t.own h (Some (turned o)))
 
     -- ---- at a step
 
@@ -84,7 +84,7 @@ module _ (p : Ir) (limits : Limits) (image : IsImage (structured_image p limits)
           ∙ ap (λ z. stop_at structured (blocks_machine p) (blocks_world p thread) (start_in p) answer (there x p image thread (start_in p) names w m world k q stand stop t) (left_ t) z) here
 
       abbrev Reached_ : Outcome Position Own Fault World → List Reached
-      Reached_ o = reached_in w t.own (does place (step st)) (Some (turned o))
+      Reached_ o = reached_by_turn w t.own (does place (step st)) (Some (turned o))
 
       done_within : (action : actions.SharedAction) (d : actions.Done) → action_of place t.own st ≡ Ok action → source_turn p thread answer k w ≡ served structured (there x p image thread (start_in p) names w m world k q stand stop t) (source.served_by place t.own st.to d)
           → StaysIf n m.storage touched (left_ t) action d → StaysInBlocks n m.storage touched (Reached_ (served structured (there x p image thread (start_in p) names w m world k q stand stop t) (source.served_by place t.own st.to d)))
@@ -109,7 +109,7 @@ module _ (p : Ir) (limits : Limits) (image : IsImage (structured_image p limits)
           (done_within action (actions.acted (left_ t) thread answer action) is e (subst (λ a. StaysIf n m.storage touched (left_ t) action (actions.acted (left_ t) thread a action)) (sym told) within))
 
       step_stays : Within t (source_turn p thread answer k w)
-      step_stays = subst (λ z. StaysInBlocks n m.storage (touched_at x.layout q.top.own m z) (reached_in w t.own z (Some (turned (source_turn p thread answer k w))))) (sym here) (its_action (action_of place t.own st) refl)
+      step_stays = subst (λ z. StaysInBlocks n m.storage (touched_at x.layout q.top.own m z) (reached_by_turn w t.own z (Some (turned (source_turn p thread answer k w))))) (sym here) (its_action (action_of place t.own st) refl)
 
     -- by what stands there
     here_stays : (z : Here) → h ≡ z → before_here q.callers z ≡ steps → (t : Stop) → Within t (source_turn p thread answer k w)
@@ -124,7 +124,7 @@ module _ (p : Ir) (limits : Limits) (image : IsImage (structured_image p limits)
     here_stays passes e at t = absurd cc
     here_stays round e at t = absurd cc
     here_stays (returns temp) e at t =
-        subst (λ z. StaysInBlocks t.made_names m.storage (touched_at x.layout q.top.own m z) (reached_in w t.own z (Some (turned (source_turn p thread answer k w))))) (sym e) (nothing_stays t.made_names m.storage _)
+        subst (λ z. StaysInBlocks t.made_names m.storage (touched_at x.layout q.top.own m z) (reached_by_turn w t.own z (Some (turned (source_turn p thread answer k w))))) (sym e) (nothing_stays t.made_names m.storage _)
 
     pub step_reaches : before x q ≡ steps → StepOwns x p names u m (pick thread answer) k q
     step_reaches at = elim (stops_or_breaks x p image thread names w m world k q stand stop) [
@@ -135,13 +135,13 @@ module _ (p : Ir) (limits : Limits) (image : IsImage (structured_image p limits)
         reaches : Stop → StepOwns x p names u m (pick thread answer) k q
         reaches t =
             let more = t.far.aged.first in
-            let stays : StaysInBlocks t.made_names m.storage (touched_at x.layout q.top.own m h) (reached_in w t.own h (picked (program_of p) u (pick thread answer)))
-            = subst (λ o. StaysInBlocks t.made_names m.storage (touched_at x.layout q.top.own m h) (reached_in w t.own h o)) (sym is_picked) (here_stays h refl at t) in
+            let stays : StaysInBlocks t.made_names m.storage (touched_at x.layout q.top.own m h) (reached_by_turn w t.own h (picked (program_of p) u (pick thread answer)))
+            = subst (λ o. StaysInBlocks t.made_names m.storage (touched_at x.layout q.top.own m h) (reached_by_turn w t.own h o)) (sym is_picked) (here_stays h refl at t) in
             let step : StepReaches x p names u m (pick thread answer) k q = record {
               made = more.0;
               stop = record { at = q.top.at; own = t.own };
               stops = t.runs;
               stands = subst (λ ns. PointStands x thread ns m.storage (record { at = q.top.at; own = t.own }) q.top) more.1 (point_stands x p thread t.made_names _ m.storage (record { at = q.top.at; own = t.own }) q.top t.stands);
-              reaches = subst (λ ns. StaysInBlocks ns m.storage (touched_at x.layout q.top.own m h) (reached_in w t.own h (picked (program_of p) u (pick thread answer)))) more.1 stays;
+              reaches = subst (λ ns. StaysInBlocks ns m.storage (touched_at x.layout q.top.own m h) (reached_by_turn w t.own h (picked (program_of p) u (pick thread answer)))) more.1 stays;
             } in
             record { step = step; begun = t.far.begun }

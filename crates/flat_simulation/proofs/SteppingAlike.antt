@@ -14,7 +14,7 @@ use Rattle.flat_meaning.specs.Memory.{Memory}
 use Rattle.flat_meaning.specs.Accesses.{Fault, Choice, plain, got, null, wait}
 use Rattle.flat_meaning.specs.Machine.{words_machine, words_world}
 use Rattle.flat_meaning.specs.Stages.{Stage, Before, safe, looks, steps, calls, turn_over, nothing, before_here, before}
-use Rattle.flat_meaning.specs.Effects.{exit_of, own_list_of, landing, acted, stop_of, step_effect}
+use Rattle.flat_meaning.specs.Effects.{exit_of, own_list_of, landing, effect_of_outcome, stop_of, step_effect}
 use Rattle.flat_meaning.specs.Order.{pick_if, tried_if, answer_of, answer_here, step_picks}
 use Rattle.flat_meaning.specs.Emitted.{AreOne, IsSafepoint, CallsAreGuarded}
 use Rattle.flat_simulation.specs.inner.Level.{image, level, StagesMatch, EffectsMatch}
@@ -114,7 +114,7 @@ module _ {P Q : Type 0} (Y : Layout) (C : Flow P) (D : Flow Q) (code : ℕ → P
 
     -- what comes of what both threads stood before, from stages that match where those stay
     acted_match : (g : Stage P) (h : Stage Q) (list : Option (List ℕ)) (o : Outcome P Words Fault Memory) (o' : Outcome Q Words Fault Memory) → Level o o' → GoesBehind y thread choice u m o' → (IsCall (D.here (D.next u.top.at true)) → ⊥)
-        → (IsStuck o' → StagesMatch C D R (Some g) (Some h)) → EffectsMatch C D R (acted thread g t list m o) (acted thread h u list m o')
+        → (IsStuck o' → StagesMatch C D R (Some g) (Some h)) → EffectsMatch C D R (effect_of_outcome thread g t list m o) (effect_of_outcome thread h u list m o')
     acted_match g h list (went q m2) (went v m3) e b n k = record { memory = e.1; end = refl; stage = landing_match list q v e.0 (λ c. n (subst (λ j. IsCall (D.here j)) b c)) }
     acted_match g h list (ended l m2) (ended l' m3) e b n k = record { memory = e.1; end = ap (λ (z : Memory). if thread == 0 then exit_of (slice_get z.threads 0) else None) e.1; stage = tt }
     acted_match g h list blocked blocked e b n k = record { memory = refl; end = refl; stage = s }
@@ -130,7 +130,7 @@ module _ {P Q : Type 0} (Y : Layout) (C : Flow P) (D : Flow Q) (code : ℕ → P
     pub step_match : (g : Stage P) (h : Stage Q) → IsStep (before y u) → (IsStuck (stop_of y thread choice u m) → StagesMatch C D R (Some g) (Some h)) → EffectsMatch C D R (step_effect x thread choice g t m) (step_effect y thread choice h u m)
     step_match g h b k =
         let not : IsCall (D.here (D.next u.top.at true)) → ⊥ = λ c. no_safepoint u.callers (D.here u.top.at) b (guarded.behind u.top.at true c) in
-        subst (λ (z : Here). EffectsMatch C D R (step_effect x thread choice g t m) (acted thread h u (own_list_of z) m (stop_of y thread choice u m))) (sym s.top.same.here)
+        subst (λ (z : Here). EffectsMatch C D R (step_effect x thread choice g t m) (effect_of_outcome thread h u (own_list_of z) m (stop_of y thread choice u m))) (sym s.top.same.here)
         (acted_match g h (own_list_of (C.here t.top.at)) (stop_of x thread choice t m) (stop_of y thread choice u m) same_outcome (step_behind y thread choice u m b) not k)
 
     -- ---- turns

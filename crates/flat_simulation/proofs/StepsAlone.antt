@@ -13,7 +13,7 @@ use Rattle.flat_meaning.specs.Effects.{Effect, act_before, act_effect, end_of, e
 use Rattle.flat_meaning.specs.Image.{Image}
 use Rattle.flat_meaning.specs.Machine.{given, looked, served_by, words_machine, words_world}
 use Rattle.flat_meaning.specs.Memory.{Memory, thread_ended}
-use Rattle.flat_meaning.specs.Stages.{Before, Stage, before, calls, can_go, going, landed, looks, nothing, room_for, safe, starts, steps, thread_at, turn_over, waiting}
+use Rattle.flat_meaning.specs.Stages.{Before, Stage, before, calls, can_advance, going, landed, looks, nothing, room_for, safe, starts, steps, thread_at, turn_over, waiting}
 use Rattle.flat_meaning.specs.Touched.{Touched, objects_touched_at, touched_at}
 use Rattle.flat_meaning.specs.Words.{Words, set_if, target_of, with_temps, word_at}
 use Rattle.ak_trace.specs.declared.endings.End.{End}
@@ -130,7 +130,7 @@ module _ (y : Image Spot) (thread : ℕ) (choice : Choice) (stage : Stage Spot) 
     unmoved = record { is = refl; bytes = λ address is. inr (refl, refl) }
 
     outcome_same : (list : Option (List ℕ)) (o p : Outcome Spot Words Fault Memory) → SameOutcome y thread choice t m other o p
-        → SameEffect m.storage.bytes other (effects.acted thread stage t list m o) (effects.acted thread stage t list (with_other m other) p)
+        → SameEffect m.storage.bytes other (effects.effect_of_outcome thread stage t list m o) (effects.effect_of_outcome thread stage t list (with_other m other) p)
     outcome_same list (went q after) (went r later) h = record { stage = ap (λ (z : Thread Spot Words). Some (landing list z)) h.0; end = refl; memory = h.1 }
     outcome_same list (ended l after) (ended k later) h = record { stage = refl; end = ap ExitOf h.1.is; memory = h.1 }
     outcome_same list blocked blocked h = record { stage = refl; end = refl; memory = unmoved }
@@ -157,7 +157,7 @@ module _ (y : Image Spot) (thread : ℕ) (choice : Choice) (stage : Stage Spot) 
     outcome_same list unfit blocked h = absurd h
     outcome_same list unfit (broke g) h = absurd h
 
-  acted_memory : (list : Option (List ℕ)) (o : Outcome Spot Words Fault Memory) → (effects.acted thread stage t list m o).memory ≡ left_by y thread choice t m o
+  acted_memory : (list : Option (List ℕ)) (o : Outcome Spot Words Fault Memory) → (effects.effect_of_outcome thread stage t list m o).memory ≡ left_by y thread choice t m o
   acted_memory list (went q after) = refl
   acted_memory list (ended l after) = refl
   acted_memory list blocked = refl
@@ -243,7 +243,7 @@ module _ (y : Image Spot) (thread : ℕ) (stage : Stage Spot) (t : Thread Spot W
 
 module _ (y : Image Spot) (thread : ℕ) (choice : Choice) (m : Memory) where
   acts_so : (stage : Stage Spot) → HasRoomThere y m choice stage → TouchesAlone (touched_there y m choice stage) (act_effect y thread choice stage) m
-  acts_so (starts function argument) room = room_alone y thread choice (starts function argument) (thread_at y (starts function argument)) m (can_go y (starts function argument)) (ends.StackLimit thread)
+  acts_so (starts function argument) room = room_alone y thread choice (starts function argument) (thread_at y (starts function argument)) m (can_advance y (starts function argument)) (ends.StackLimit thread)
   acts_so (going t) room = before_acts y thread choice (going t) t m (before y t) room
   acts_so (waiting t) room = before_acts y thread choice (waiting t) t m (before y t) room
   acts_so (landed list t) room = before_acts y thread choice (landed list t) t m (before y t) room

@@ -4,7 +4,7 @@ use Rattle.block_store.specs.Actions.{World, with_blocks}
 use Rattle.arena_meaning.specs.Arena.{Storage}
 use Rattle.struct_ir.specs.Nodes.{Ir}
 use Rattle.struct_ir.specs.Flow.{Here, does, tests, passes, round, returns}
-use Rattle.struct_ir.specs.Machine.{Point, stops, stopped_or, acted, ahead_at, ahead, run, IsRun}
+use Rattle.struct_ir.specs.Machine.{Point, stops, stopped_or, after_act, ahead_at, ahead, run, IsRun}
 use Rattle.struct_ir.specs.Threads.{Thread}
 use Rattle.struct_ir.proofs.Runs.{runs_are_steps}
 use Rattle.struct_ir.specs.meaning.Blocks.{Own, Fault, ends_turn, blocks_machine}
@@ -15,7 +15,7 @@ use Rattle.flat_meaning.specs.Names.{Name}
 use Rattle.flat_meaning.specs.Stands.{in_blocks}
 use Rattle.flat_simulation.specs.inner.Values.{AnyBlock, KnownIn}
 use Rattle.flat_simulation.specs.inner.Turns.{Far, IsClear}
-use Rattle.flat_simulation.specs.inner.Lags.{StandsIn, Reaches, comes, breaks}
+use Rattle.flat_simulation.specs.inner.Lags.{StandsIn, CatchesUpInTurn, comes, breaks}
 use Rattle.flat_simulation.specs.inner.Programs.{IsImage}
 use Rattle.flat_simulation.specs.inner.Worlds.{WorldStands, TurnEnded}
 use Rattle.flat_simulation.specs.inner.Threads.{CallersStand, ThreadStands}
@@ -34,7 +34,7 @@ IsStop (returns temp) = Unit {0}
 module _ {P : Type 0} (x : Image P) (p : Ir) where
   -- so nothing is ahead of it
   stops_there : (y : Point P Own) (h : Here) → IsStop h → ahead_at x.flow (blocks_machine p) y h ≡ stops
-  stops_there y (does place a) stop = ap (λ b. stopped_or b (acted (x.flow.next y.at true) ((blocks_machine p).does place a y.own))) stop
+  stops_there y (does place a) stop = ap (λ b. stopped_or b (after_act (x.flow.next y.at true) ((blocks_machine p).does place a y.own))) stop
   stops_there y (tests place temp) stop = absurd stop
   stops_there y passes stop = absurd stop
   stops_there y round stop = refl
@@ -63,7 +63,7 @@ module _ {P : Type 0} (x : Image P) (p : Ir) (image : IsImage x p) (thread : ℕ
       is_run : IsRun x.flow (blocks_machine p)
       is_run = runs_are_steps P Own Fault x.flow image.shrinks (blocks_machine p)
 
-      by_turn : Reaches x p thread (length w.blocks) names w.blocks s k.top q.top → Stopped ⊎ ((f : Fault) × (run x.flow (blocks_machine p) (in_blocks w.blocks k.top) ≡ Err f))
+      by_turn : CatchesUpInTurn x p thread (length w.blocks) names w.blocks s k.top q.top → Stopped ⊎ ((f : Fault) × (run x.flow (blocks_machine p) (in_blocks w.blocks k.top) ≡ Err f))
       by_turn (breaks f e) = inr (f, e)
       by_turn (comes y n steps far stands) =
           let end : ahead x.flow (blocks_machine p) y ≡ stops = ap (λ at. ahead_at x.flow (blocks_machine p) y (x.flow.here at)) (sym stands.here) ∙ stops_there x p y (x.flow.here q.top.at) stop in

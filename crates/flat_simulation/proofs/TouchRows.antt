@@ -16,7 +16,7 @@ use Rattle.struct_ir.specs.meaning.Threads.{program_of}
 use Rattle.flat_meaning.specs.Events.{first_state}
 use Rattle.flat_meaning.specs.Names.{Agrees, Lives, Name, PointerAgrees, name_of, plain, word_for}
 use Rattle.flat_meaning.specs.Order.{pick}
-use Rattle.flat_meaning.specs.Reaching.{IsReached, reached_in}
+use Rattle.flat_meaning.specs.Reaching.{IsReached, reached_by_turn}
 use Rattle.flat_meaning.specs.Stands.{in_blocks}
 use Rattle.flat_meaning.specs.Touched.{Touches, writing}
 use Rattle.flat_simulation.specs.LinearSteps.{StepTouches, TopLies, breaks, comes, source_image}
@@ -44,7 +44,7 @@ record There : Type 0 where
   pub object : stop.own.objects 0 ≡ Some 0
   pub pointer : stop.own.temps 0 ≡ value (values.Pointer (To 0 0))
   pub lives : Lives stop.own.blocks 0
-  pub reached : reached_in begins.world stop.own (structured.here stop.at) (picked (program_of source) begins (pick 0 Plain)) ≡ stored
+  pub reached : reached_by_turn begins.world stop.own (structured.here stop.at) (picked (program_of source) begins (pick 0 Plain)) ≡ stored
 
 there : There
 unfolding run run_within residue wrapped_value exact_result rule_of replacement

@@ -26,7 +26,7 @@ use Rattle.struct_ir.specs.Nodes.{Action, load, store, copy_bytes, malloc, callo
 use Rattle.ak_trace.specs.declared.endings.TrapKind.{TrapKind}
 use Rattle.ak_trace.specs.declared.endings.TrapKind.TheVariants as kinds
 use Rattle.flat_meaning.specs.Accesses.{Choice, plain, got, null, wait, Done, went, waits, unfit, over, allocated, guarded, is_live_start, is_plain, output_room, prints, renewed, within, word_read, zeroed}
-use Rattle.flat_meaning.specs.Actions.{acted, becomes, is_equal, is_free, joined_at, joined_if, may_start, number_at, printed_parts}
+use Rattle.flat_meaning.specs.Actions.{acted_on_memory, word_after_change, is_equal, is_free, joined_at, joined_if, may_start, number_at, printed_parts}
 use Rattle.flat_meaning.specs.Image.{Layout}
 use Rattle.flat_meaning.specs.Memory.{Made, Memory, beginning, left_by, with_thread, written}
 use Rattle.flat_meaning.specs.Printing.{Printed, bytes, text, Read, reads, outside, too_long, and_then, behind, read_part, read_parts, text_in}
@@ -202,7 +202,7 @@ module _ (y : Layout) (number : ℕ) (choice : Choice) (m : Memory) (other : Lis
   -- an action, with what it touches
   abbrev ActsAlone : Action → List Target → List ℕ → Type 0
   ActsAlone a ps ws = (same : ReadsSame (touched_in_objects choice a ws m.storage ++ touched_by y a ps ws m) m.storage.bytes other) → HasItsRoom m.storage choice a ws
-      → Both (touched_in_objects choice a ws m.storage ++ touched_by y a ps ws m) m other same (acted y number choice a ps ws m) (acted y number choice a ps ws (with_other m other))
+      → Both (touched_in_objects choice a ws m.storage ++ touched_by y a ps ws m) m other same (acted_on_memory y number choice a ps ws m) (acted_on_memory y number choice a ps ws (with_other m other))
 
   misfits : (touched : List Touched) (same : ReadsSame touched m.storage.bytes other) → Both touched m other same unfit unfit
   misfits touched same = (tt, tt)
@@ -361,9 +361,9 @@ module _ (y : Layout) (number : ℕ) (choice : Choice) (m : Memory) (other : Lis
       settles touched m other same (is_plain choice) _ _
       (in_range touched m other same kinds.Store a.address k _ _ (λ there.
       let num = number_same touched same t a.address there (λ address le lt. any_left _ (reading k a.address) (writing k a.address) (reads_it k a.address address le lt)) in
-      let new = low_bytes k (becomes how t (number_at t a.address m) by) in
-      let result : (went (Some (number_at t a.address (with_other m other))) (written (with_other m other) a.address (low_bytes k (becomes how t (number_at t a.address (with_other m other)) by)))) ≡ went (Some (number_at t a.address m)) (written (with_other m other) a.address new) =
-      ap (λ (v : ℕ). went (Some v) (written (with_other m other) a.address (low_bytes k (becomes how t v by)))) num in
+      let new = low_bytes k (word_after_change how t (number_at t a.address m) by) in
+      let result : (went (Some (number_at t a.address (with_other m other))) (written (with_other m other) a.address (low_bytes k (word_after_change how t (number_at t a.address (with_other m other)) by)))) ≡ went (Some (number_at t a.address m)) (written (with_other m other) a.address new) =
+      ap (λ (v : ℕ). went (Some v) (written (with_other m other) a.address (low_bytes k (word_after_change how t v by)))) num in
       subst (λ (e : Done). Both touched m other same (went (Some (number_at t a.address m)) (written m a.address new)) e) (sym result)
       (writes touched m other same a.address k there (λ address le lt. any_right _ (reading k a.address) (writing k a.address) (writes_it k a.address address le lt)) new new (length-low_bytes k _) refl (Some (number_at t a.address m)))))
 
@@ -386,7 +386,7 @@ module _ (y : Layout) (number : ℕ) (choice : Choice) (m : Memory) (other : Lis
         (low_bytes k (number_at t a.address m)) (low_bytes k (number_at t a.address (with_other m other))) (length-low_bytes k _) (ap (low_bytes k) num) (Some 0)
 
     compares_by : (b : Bool) → is_equal t (number_at t a.address m) (number_at t want.address m) ≡ b → (same : ReadsSame (Compares b) m.storage.bytes other)
-        → Both (Compares b) m other same (cond (is_plain choice) (within kinds.Store (first_outside_of_both all_bytes a.address want.address k) (Result b m)) unfit) (acted y number choice (compare t) (a ∷ want ∷ []) (new ∷ []) (with_other m other))
+        → Both (Compares b) m other same (cond (is_plain choice) (within kinds.Store (first_outside_of_both all_bytes a.address want.address k) (Result b m)) unfit) (acted_on_memory y number choice (compare t) (a ∷ want ∷ []) (new ∷ []) (with_other m other))
     compares_by b is_so same =
         let outside_same : first_outside_of_both other a.address want.address k ≡ first_outside_of_both all_bytes a.address want.address k = λ i. first_of (same_outside all_bytes other same.size a.address k i) (same_outside all_bytes other same.size want.address k i) in
         settles (Compares b) m other same (is_plain choice) _ _
@@ -480,7 +480,7 @@ module _ (y : Layout) (number : ℕ) (choice : Choice) (m : Memory) (other : Lis
   locks a same room = by (is_free m a.address) refl same where
     by : (b : Bool) → is_free m a.address ≡ b → (same : ReadsSame (reading 8 a.address ++ cond b (writing 8 a.address) []) m.storage.bytes other)
         → Both (reading 8 a.address ++ cond b (writing 8 a.address) []) m other same (cond (is_plain choice) (within kinds.Lock (first_outside all_bytes a.address 8) (cond b (went None (written m a.address (low_bytes 8 (number + 1)))) waits)) unfit)
-        (acted y number choice lock (a ∷ []) [] (with_other m other))
+        (acted_on_memory y number choice lock (a ∷ []) [] (with_other m other))
     by b is_free_now same =
         let touched = reading 8 a.address ++ cond b (writing 8 a.address) [] in
         settles touched m other same (is_plain choice) _ _

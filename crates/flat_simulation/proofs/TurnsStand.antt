@@ -18,8 +18,8 @@ use Rattle.flat_meaning.specs.Words.{Words}
 use Rattle.flat_meaning.specs.Memory.{Memory}
 use Rattle.flat_meaning.specs.Accesses as flat
 use Rattle.flat_meaning.specs.Stages.{Stage, waiting}
-use Rattle.flat_meaning.specs.Effects.{landing, exit_of, end_of, acted}
-use Rattle.flat_meaning.specs.Events.{State, put}
+use Rattle.flat_meaning.specs.Effects.{landing, exit_of, end_of, effect_of_outcome}
+use Rattle.flat_meaning.specs.Events.{MachineState, put}
 use Rattle.flat_meaning.specs.Order.{pick, pick_if}
 use Rattle.flat_meaning.specs.Names.{Name, ids_in}
 use Rattle.flat_simulation.specs.Kinds.{MeetsWrongKind, UpTo, UpToAKindFrom}
@@ -57,7 +57,7 @@ module _ (p : Ir) (limits : Limits) (image : IsImage (structured_image p limits)
   abbrev P : runs.Program (Thread Position Own)
   P = program_of p
 
-  module _ (names : List Name) (u : runs.State (Thread Position Own)) (s : State Position) (stand : StateStands x p names u s) where
+  module _ (names : List Name) (u : runs.State (Thread Position Own)) (s : MachineState Position) (stand : StateStands x p names u s) where
     -- no turn
     pub stays : (thread : ℕ) (g h : Stage Position) (end : Option _) → own_at s.own thread ≡ Some g → StageStands x p thread names u.world.blocks s.memory.storage (own_at u.own thread) (Some h)
         → Next p limits names [] (put s thread (record { memory = s.memory; stage = Some h; end = end })) u
@@ -94,7 +94,7 @@ module _ (p : Ir) (limits : Limits) (image : IsImage (structured_image p limits)
 
         module _ (t : Thread Position Words) (given : List ℕ) (list : Option (List ℕ)) where
           abbrev Comes : Outcome Position Words flat.Fault Memory → Type 0
-          Comes o' = UpToAKindFrom p (pick_if thread answer o') n u (Next p limits names given (put s thread (acted thread g t list s.memory o')))
+          Comes o' = UpToAKindFrom p (pick_if thread answer o') n u (Next p limits names given (put s thread (effect_of_outcome thread g t list s.memory o')))
 
           abbrev Alike : Outcome Position Own Fault World → Outcome Position Words flat.Fault Memory → Type 0
           Alike o o' = TurnsAlike x p thread names given list u.world s.memory o o'
@@ -141,7 +141,7 @@ module _ (p : Ir) (limits : Limits) (image : IsImage (structured_image p limits)
           both_ended (broke wrong_kind) l m e h exit = wrong (Next p limits names given (put s thread (record { memory = m; stage = None; end = if thread == 0 then exit_of (slice_get m.threads 0) else None }))) e
           both_ended unfit l m e h exit = absurd h
 
-          nothing_given : (given ≡ []) → (later : State Position) → Next p limits names [] later u → Next p limits names given later u
+          nothing_given : (given ≡ []) → (later : MachineState Position) → Next p limits names [] later u → Next p limits names given later u
           nothing_given e later z = record { all = z.all; stands = z.stands; ids = z.ids ∙ ap (λ l. ids_in names ++ l) (sym e); first = z.first }
 
           -- whatever comes of it

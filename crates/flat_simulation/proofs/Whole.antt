@@ -10,7 +10,7 @@ use Rattle.struct_ir.specs.meaning.Blocks.{Own}
 use Rattle.struct_ir.specs.meaning.Start.{start}
 use Rattle.struct_ir.specs.meaning.Threads.{program_of, start_in}
 use Rattle.flat_meaning.specs.Image.{Limits, Image, limits_for, structured_image}
-use Rattle.flat_meaning.specs.Events.{State, Event, after_all, first_state}
+use Rattle.flat_meaning.specs.Events.{MachineState, Event, after_all, first_state}
 use Rattle.flat_meaning.specs.Order.{order_of}
 use Rattle.flat_meaning.specs.Simulation.{UpToABreak, EachTurnTakesAnAnswer, Simulates, EventsFollowTurns}
 use Rattle.flat_meaning.specs.Start.{ids_of}
@@ -77,7 +77,7 @@ up_to_a_break p answers order B D so h =
     never_meets r D W (none_met p answers order) (up_to r B D W (λ u reached b. so u (all_right p answers order u reached) b) h)
 
 -- each thread's next step follows
-pub each_follows : (x : Image Position) (p : Ir) (es : List Event) (u : runs.State (Thread Position Own)) (s : State Position) → ((thread : ℕ) → TakesRightKinds p u thread) → StandsAfter x p es u s → Simulates x p es u s
+pub each_follows : (x : Image Position) (p : Ir) (es : List Event) (u : runs.State (Thread Position Own)) (s : MachineState Position) → ((thread : ℕ) → TakesRightKinds p u thread) → StandsAfter x p es u s → Simulates x p es u s
 each_follows x p es u s right h = record {
   names = h.names;
   made = h.made;

@@ -6,7 +6,7 @@ use Rattle.block_store.specs.Blocks.{Blocks}
 use Rattle.arena_meaning.specs.Arena.{Storage}
 use Rattle.struct_ir.specs.Nodes.{Calc, Act, set, call, step, look, safepoint, begin_object, end_object, assigned_by, Ir}
 use Rattle.struct_ir.specs.Flow.{Here, does, tests, passes, round, returns}
-use Rattle.struct_ir.specs.Machine.{Point, Ahead, goes, stops, breaks, acted, tested, stopped_or, ahead_at, ahead}
+use Rattle.struct_ir.specs.Machine.{Point, Ahead, goes, stops, breaks, after_act, tested, stopped_or, ahead_at, ahead}
 use Rattle.struct_ir.specs.Valid.{scope_of, is_calc}
 use Rattle.struct_ir.specs.ValidCode.{is_here}
 use Rattle.struct_ir.specs.meaning.Blocks as source
@@ -111,7 +111,7 @@ module _ {P : Type 0} (x : Image P) (p : Ir) (image : IsImage x p) (thread befor
     does_act place (safepoint slots) alone ok e later done = absurd cc
 
     acts_to : (r : Point P Words) (place : ℕ) (a : Act) → x.flow.here q.at ≡ does place a → ends_event a ≡ false → is_here (scope_of p frame.func) (does place a) ≡ true → (o : Result Own Fault) → source.own_act p place a k.own ≡ o
-        → record { at = x.flow.next q.at true; own = machine.own_act x.layout thread a q.own } ≡ r → FollowsTo (acted (x.flow.next q.at true) o) r
+        → record { at = x.flow.next q.at true; own = machine.own_act x.layout thread a q.own } ≡ r → FollowsTo (after_act (x.flow.next q.at true) o) r
     acts_to r place a e alone ok (Err f) done there = tt
     acts_to r place a e alone ok (Ok later) done there =
         let d = does_act place a alone ok e later done in
@@ -132,13 +132,13 @@ module _ {P : Type 0} (x : Image P) (p : Ir) (image : IsImage x p) (thread befor
     here_to : (r : Point P Words) (h : Here) → x.flow.here q.at ≡ h → is_here (scope_of p frame.func) h ≡ true → ahead_at x.flow (words_machine x.layout thread) q h ≡ goes r → FollowsTo (ahead_at x.flow (blocks_machine p) (record { at = q.at; own = k.own }) h) r
     here_to r (does place a) e ok g = stopped (ends_event a) refl g
       where
-        stopped : (b : Bool) → ends_event a ≡ b → stopped_or b (acted {F = flat.Fault} (x.flow.next q.at true) (Ok (machine.own_act x.layout thread a q.own))) ≡ goes r
-            → FollowsTo (stopped_or (ends_turn a) (acted (x.flow.next q.at true) (source.own_act p place a k.own))) r
+        stopped : (b : Bool) → ends_event a ≡ b → stopped_or b (after_act {F = flat.Fault} (x.flow.next q.at true) (Ok (machine.own_act x.layout thread a q.own))) ≡ goes r
+            → FollowsTo (stopped_or (ends_turn a) (after_act (x.flow.next q.at true) (source.own_act p place a k.own))) r
         stopped true alone g = absurd cc
         stopped false alone g =
             let too = goes_too a alone in
             let there : record { at = x.flow.next q.at true; own = machine.own_act x.layout thread a q.own } ≡ r = cc in
-            subst (λ b. FollowsTo (stopped_or b (acted (x.flow.next q.at true) (source.own_act p place a k.own))) r) (sym too.0)
+            subst (λ b. FollowsTo (stopped_or b (after_act (x.flow.next q.at true) (source.own_act p place a k.own))) r) (sym too.0)
             (acts_to r place a e alone ok (source.own_act p place a k.own) refl there)
     here_to r (tests place temp) e ok g = tests_to r place temp e ok _ refl g
     here_to r passes e ok g =

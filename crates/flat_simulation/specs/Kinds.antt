@@ -24,7 +24,7 @@ use Rattle.ak_trace.specs.declared.endings.End.TheVariants as ends
 use Rattle.flat_meaning.specs.Image.{Image, Limits, limits_for, structured_image, linear_image}
 use Rattle.flat_meaning.specs.Accesses.{Choice}
 use Rattle.flat_meaning.specs.Stages.{Stage, steps, thread_at}
-use Rattle.flat_meaning.specs.Events.{State, Event, act, after, after_all, first_state}
+use Rattle.flat_meaning.specs.Events.{MachineState, Event, act, after, after_all, first_state}
 use Rattle.flat_meaning.specs.Order.{pick, order_of, picks_of, tried_by}
 use Rattle.flat_meaning.specs.Allowed.{StandsBefore, IsAllowed, AreAllowed}
 use Rattle.flat_meaning.specs.Names.{Name}
@@ -102,7 +102,7 @@ UpToAKind p order R = UpToAKindFrom p order 0 (runs.first_state (program_of p) (
 
 -- whatever step of this thread may come next: where its turn breaks no rule, what it touches is what that reaches; where it waits for a mutex
 -- or a thread, its turn waits, or breaks a rule; and where it traps, its turn breaks one
-pub record StepFollows (x : Image Position) (p : Ir) (names : List Name) (u : runs.State (Thread Position Own)) (s : State Position) (thread : ℕ) : Type 0 where
+pub record StepFollows (x : Image Position) (p : Ir) (names : List Name) (u : runs.State (Thread Position Own)) (s : MachineState Position) (thread : ℕ) : Type 0 where
   pub reaches : (choice : Choice) (t : Thread Position Own) (stage : Stage Position) → own_at u.own thread ≡ Some t → own_at s.own thread ≡ Some stage
       → IsAllowed x s (act thread choice) → StandsBefore x (own_at s.own thread) steps
       → All (λ (k : Pick). Unbroken (picked (program_of p) u k) → StepReaches x p names u s.memory k t (thread_at x stage)) (turns_at x s (act thread choice))
@@ -111,7 +111,7 @@ pub record StepFollows (x : Image Position) (p : Ir) (names : List Name) (u : ru
 
 -- by the names that the events made the machine's state stands for the source's; and the next step of each thread follows the source's, unless
 -- the thread's next turn is an operation on a value of a kind that it doesn't take
-pub record StandsAfter (x : Image Position) (p : Ir) (es : List Event) (u : runs.State (Thread Position Own)) (s : State Position) : Type 0 where
+pub record StandsAfter (x : Image Position) (p : Ir) (es : List Event) (u : runs.State (Thread Position Own)) (s : MachineState Position) : Type 0 where
   pub names : List Name
   pub made : AreMadeBy x es names
   pub stands : StandsFor x p names u s
@@ -130,7 +130,7 @@ EventsFollowCode = (p : Ir) → IsGuarded p → (output heaps heap ids : ℕ) �
 
 -- whatever step of this thread may come next, as above; where it would print more than may be printed, its turn does; and where a call has no
 -- room, its turn enters that
-pub record LinearStepFollows (y : Image Spot) (p : Ir) (names : List Name) (u : runs.State (Thread Position Own)) (s : State Spot) (thread : ℕ) : Type 0 where
+pub record LinearStepFollows (y : Image Spot) (p : Ir) (names : List Name) (u : runs.State (Thread Position Own)) (s : MachineState Spot) (thread : ℕ) : Type 0 where
   pub reaches : (choice : Choice) (t : Thread Position Own) (stage : Stage Spot) → own_at u.own thread ≡ Some t → own_at s.own thread ≡ Some stage
       → IsAllowed y s (act thread choice) → StandsBefore y (own_at s.own thread) steps
       → All (λ (k : Pick). Unbroken (picked (program_of p) u k) → StepTouches y p names u s k t (thread_at y stage)) (picks_of y s (act thread choice) ++ tried_by y s (act thread choice))
@@ -144,7 +144,7 @@ pub record LinearStepFollows (y : Image Spot) (p : Ir) (names : List Name) (u : 
 -- by the names that the events made, what is shared stands for the source's world; while the run goes on, the source has each thread that the
 -- machine has, and its stack objects lie at their places; and the next step of each thread follows the source's, unless the thread's next turn
 -- is an operation on a value of a kind that it doesn't take
-pub record LinearStandsAfter (y : Image Spot) (p : Ir) (ds : List Event) (u : runs.State (Thread Position Own)) (s : State Spot) : Type 0 where
+pub record LinearStandsAfter (y : Image Spot) (p : Ir) (ds : List Event) (u : runs.State (Thread Position Own)) (s : MachineState Spot) : Type 0 where
   pub names : List Name
   pub made : AreMadeBy y ds names
   pub world : WorldStands names u.world s.memory

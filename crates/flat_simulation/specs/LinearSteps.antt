@@ -18,14 +18,14 @@ use Rattle.flat_meaning.specs.Words.{Words}
 use Rattle.flat_meaning.specs.Accesses.{Choice}
 use Rattle.flat_meaning.specs.Ready.{takes_room}
 use Rattle.flat_meaning.specs.Stages.{Stage, starts, going, waiting, landed, steps, thread_at}
-use Rattle.flat_meaning.specs.Events.{State, Event, act, after}
+use Rattle.flat_meaning.specs.Events.{MachineState, Event, act, after}
 use Rattle.flat_meaning.specs.Order.{picks_of, tried_by}
 use Rattle.flat_meaning.specs.Allowed.{StandsBefore, IsAllowed}
 use Rattle.flat_meaning.specs.Names.{Name}
 use Rattle.flat_meaning.specs.Stands.{in_blocks, OwnStands, PointStands, WorldStands}
 use Rattle.flat_meaning.specs.Start.{AreMadeBy}
 use Rattle.flat_meaning.specs.Touched.{touched_at}
-use Rattle.flat_meaning.specs.Reaching.{Unbroken, Waits, Broken, StaysInBlocks, reached_in}
+use Rattle.flat_meaning.specs.Reaching.{Unbroken, Waits, Broken, StaysInBlocks, reached_by_turn}
 use Rattle.flat_meaning.specs.Simulation.{AllComeOut, IsTrap}
 
 -- ---- how a turn comes out that the machine's limits stop
@@ -68,19 +68,19 @@ source_image p layout = record { flow = structured; start = start_in p; layout =
 -- the source's thread stops in its turn where the machine's stands: before the same, and its call stands for the machine's, by the names
 -- and those of what that turn has made: each register, and each stack object that has begun, at its place; what that turn has made and
 -- still lives are such objects; and what the machine's step touches are bytes of blocks that this turn reaches, by those names
-pub record StepTouches (y : Image Spot) (p : Ir) (names : List Name) (u : runs.State (Thread Position Own)) (s : State Spot) (k : Pick) (t : Thread Position Own) (q : Thread Spot Words) : Type 0 where
+pub record StepTouches (y : Image Spot) (p : Ir) (names : List Name) (u : runs.State (Thread Position Own)) (s : MachineState Spot) (k : Pick) (t : Thread Position Own) (q : Thread Spot Words) : Type 0 where
   pub made : List Name
   pub stop : Point Position Own
   pub stops : run structured (blocks_machine p) (in_blocks u.world.blocks t.top) ≡ Ok stop
   pub here : y.flow.here q.top.at ≡ structured.here stop.at
   pub stands : PointStands (source_image p y.layout) k.thread (names ++ made) s.memory.storage stop (record { at = stop.at; own = q.top.own })
   pub begun : (block : ℕ) (b : Block) → length u.world.blocks ≤ block → live stop.own.blocks block ≡ Some b → (i : ℕ) × (stop.own.objects i ≡ Some block)
-  pub reaches : StaysInBlocks (names ++ made) s.memory.storage (touched_at y.layout q.top.own s.memory (y.flow.here q.top.at)) (reached_in u.world stop.own (structured.here stop.at) (picked (program_of p) u k))
+  pub reaches : StaysInBlocks (names ++ made) s.memory.storage (touched_at y.layout q.top.own s.memory (y.flow.here q.top.at)) (reached_by_turn u.world stop.own (structured.here stop.at) (picked (program_of p) u k))
 
 -- whatever step may come next: where its turn breaks no rule, what it touches is what that reaches; where it waits for a mutex or a
 -- thread, its turn waits, or breaks a rule; where it traps, its turn breaks one; where it would print more than may be printed, its turn
 -- does; and where a call has no room, its turn enters that
-pub record StepsFollow (y : Image Spot) (p : Ir) (names : List Name) (u : runs.State (Thread Position Own)) (s : State Spot) : Type 0 where
+pub record LinearStepsFollow (y : Image Spot) (p : Ir) (names : List Name) (u : runs.State (Thread Position Own)) (s : MachineState Spot) : Type 0 where
   pub reaches : (thread : ℕ) (choice : Choice) (t : Thread Position Own) (stage : Stage Spot) → own_at u.own thread ≡ Some t → own_at s.own thread ≡ Some stage
       → IsAllowed y s (act thread choice) → StandsBefore y (own_at s.own thread) steps
       → All (λ (k : Pick). Unbroken (picked (program_of p) u k) → StepTouches y p names u s k t (thread_at y stage)) (picks_of y s (act thread choice) ++ tried_by y s (act thread choice))
@@ -121,9 +121,9 @@ pub record HasStack (y : Image Spot) (p : Ir) (thread : ℕ) (names : List Name)
 
 -- by the names that the events made, what is shared stands for the source's world; while the run goes on, the source has each thread that
 -- the machine has, and its stack objects lie at their places; and the steps follow the source's turns
-pub record Follows (y : Image Spot) (p : Ir) (ds : List Event) (u : runs.State (Thread Position Own)) (s : State Spot) : Type 0 where
+pub record FollowsEvents (y : Image Spot) (p : Ir) (ds : List Event) (u : runs.State (Thread Position Own)) (s : MachineState Spot) : Type 0 where
   pub names : List Name
   pub made : AreMadeBy y ds names
   pub world : WorldStands names u.world s.memory
   pub stacks : s.end ≡ None → (thread : ℕ) (stage : Stage Spot) → own_at s.own thread ≡ Some stage → HasStack y p thread names u stage
-  pub steps : StepsFollow y p names u s
+  pub steps : LinearStepsFollow y p names u s

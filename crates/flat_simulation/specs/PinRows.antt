@@ -18,13 +18,13 @@ use Rattle.struct_ir.specs.meaning.Rows.{Came, came, broke, seen as source_of}
 use Rattle.ak_trace.specs.declared.endings.End.TheVariants as ends
 use Rattle.flat_meaning.specs.Image.{Limits, Image, structured_image, linear_image}
 use Rattle.flat_meaning.specs.Stages.{Stage, thread_at}
-use Rattle.flat_meaning.specs.Events.{State, Event, barrier, after_all, first_state}
+use Rattle.flat_meaning.specs.Events.{MachineState, Event, barrier, after_all, first_state}
 use Rattle.flat_meaning.specs.Allowed.{pinned, IsAllowed}
 use Rattle.flat_meaning.specs.SmallCodes.{row, instrs, structured_main, linear_main, small, through, does, store_int, load_int, print_int, malloc_bytes}
 use Rattle.flat_meaning.specs.Rows.{go, looks, steps, gets, moving, Seen, seen, turns}
 
 -- where a run stands after these events
-abbrev pub stands_after : {P : Type 0} → Image P → List Event → State P
+abbrev pub stands_after : {P : Type 0} → Image P → List Event → MachineState P
 stands_after x es = after_all x es (first_state x)
 
 -- what turns come to over blocks

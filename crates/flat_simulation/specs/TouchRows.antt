@@ -17,11 +17,11 @@ use Rattle.struct_ir.specs.Threads.{Thread}
 use Rattle.struct_ir.specs.meaning.Blocks.{Own, blocks_machine}
 use Rattle.struct_ir.specs.meaning.Start.{start}
 use Rattle.struct_ir.specs.meaning.Threads.{program_of}
-use Rattle.flat_meaning.specs.Events.{State, first_state}
+use Rattle.flat_meaning.specs.Events.{MachineState, first_state}
 use Rattle.flat_meaning.specs.Image.{Image, linear_image}
 use Rattle.flat_meaning.specs.Names.{Name, plain}
 use Rattle.flat_meaning.specs.Order.{pick}
-use Rattle.flat_meaning.specs.Reaching.{StaysInBlocks, reached_in}
+use Rattle.flat_meaning.specs.Reaching.{StaysInBlocks, reached_by_turn}
 use Rattle.flat_meaning.specs.SmallCodes.{row, instrs, small, store_int}
 use Rattle.flat_meaning.specs.Stages.{first_thread}
 use Rattle.flat_meaning.specs.Stands.{in_blocks}
@@ -67,11 +67,11 @@ with_array index address = record {
 }
 
 -- what is said of a step's bytes by any names
-pub record StaysBySomeNames (y : Image Spot) (p : Ir) (names : List Name) (u : runs.State (Thread Position Own)) (s : State Spot) (k : Pick) (t : Thread Position Own) (q : Thread Spot Words) : Type 0 where
+pub record StaysBySomeNames (y : Image Spot) (p : Ir) (names : List Name) (u : runs.State (Thread Position Own)) (s : MachineState Spot) (k : Pick) (t : Thread Position Own) (q : Thread Spot Words) : Type 0 where
   pub made : List Name
   pub stop : Point Position Own
   pub stops : machines.run structured (blocks_machine p) (in_blocks u.world.blocks t.top) ≡ Ok stop
-  pub reaches : StaysInBlocks (names ++ made) s.memory.storage (touched_at y.layout q.top.own s.memory (y.flow.here q.top.at)) (reached_in u.world stop.own (structured.here stop.at) (picked (program_of p) u k))
+  pub reaches : StaysInBlocks (names ++ made) s.memory.storage (touched_at y.layout q.top.own s.memory (y.flow.here q.top.at)) (reached_by_turn u.world stop.own (structured.here stop.at) (picked (program_of p) u k))
 
 -- what holds of a state and its main thread, if that goes on
 abbrev pub OfTheMain : (runs.State (Thread Position Own) → Thread Position Own → Type 0) → runs.State (Thread Position Own) → Option (Thread Position Own) → Type 0

@@ -16,7 +16,7 @@ use Rattle.flat_meaning.specs.Words.{Words, Target, word_at, target_of, set_if}
 use Rattle.flat_meaning.specs.Memory.{Memory, with_storage, written}
 use Rattle.flat_meaning.specs.Accesses as accesses
 use Rattle.flat_meaning.specs.Accesses.{Done}
-use Rattle.flat_meaning.specs.Actions.{acted, printed_parts}
+use Rattle.flat_meaning.specs.Actions.{acted_on_memory, printed_parts}
 use Rattle.flat_meaning.specs.Printing.{Read, reads, outside, too_long, read_parts}
 use Rattle.ak_words.specs.Bytes.{low_bytes}
 use Rattle.block_store.specs.declared.values.Access.{Access}
@@ -76,7 +76,7 @@ prints_done m too_long = tt
 
 -- nothing is chosen for it, and its entry tells a plain step
 record Fits (x : Image Spot) (m : Memory) (l : Words) (a : Action) (places : List Place) (temps : List ℕ) : Type 0 where
-  done_ : IsDone m (acted x.layout 0 (action_choice (malloc_choice m.storage) l a temps) a (map (target_of l) places) (map (word_at l) temps) m)
+  done_ : IsDone m (acted_on_memory x.layout 0 (action_choice (malloc_choice m.storage) l a temps) a (map (target_of l) places) (map (word_at l) temps) m)
   turned : done_turned x m (action_choice (malloc_choice m.storage) l a temps) a ≡ turns.stepped
 
 fits : (x : Image Spot) (m : Memory) (l : Words) (a : Action) (places : List Place) (temps : List ℕ) → FitsAction a places temps → Fits x m l a places temps
@@ -207,7 +207,7 @@ module _ (instrs : List Instr) (shrinks : Shrinks (flow instrs)) (limits : Limit
 
   -- what comes of a step that is done so
   abbrev outcome_effect : (place : ℕ) (s : Step) → (stage : Stage Spot) → (i : ℕ) → Words → Done → Effect Spot
-  outcome_effect place s stage i l d = effects.acted 0 stage (thread i l) (own_list s) m (outcome_at x 0 m place s (thread i l) d)
+  outcome_effect place s stage i l d = effects.effect_of_outcome 0 stage (thread i l) (own_list s) m (outcome_at x 0 m place s (thread i l) d)
 
   abbrev outcome_turns : (place : ℕ) (s : Step) → (i : ℕ) → Words → Done → Turned
   outcome_turns place s i l d = outcome_turned x 0 m (choice_at x 0 m place s l) (does place (step s)) (outcome_at x 0 m place s (thread i l) d)
@@ -227,7 +227,7 @@ module _ (instrs : List Instr) (shrinks : Shrinks (flow instrs)) (limits : Limit
 
     effect_is : effect stage ≡ outcome_effect place s stage i l (done_at x 0 m place s l)
     effect_is = step_effect_is x 0 m place s stage (in_call o (thread i l)) here
-        ∙ ap (λ (t : Thread Spot Words). effects.acted 0 stage t (own_list s) m (outcome_at x 0 m place s t (done_at x 0 m place s t.top.own))) (thread_is o (thread i l))
+        ∙ ap (λ (t : Thread Spot Words). effects.effect_of_outcome 0 stage t (own_list s) m (outcome_at x 0 m place s t (done_at x 0 m place s t.top.own))) (thread_is o (thread i l))
 
     turned_is : turned stage ≡ outcome_turns place s i l (done_at x 0 m place s l)
     turned_is = step_turned_is x 0 m place s stage (in_call o (thread i l)) here

@@ -12,7 +12,7 @@ use Rattle.flat_meaning.specs.declared.endings.Stop.TheVariants.{AtStep}
 use Rattle.flat_meaning.specs.Image.{Image}
 use Rattle.flat_meaning.specs.Words.{Words, first_call}
 use Rattle.flat_meaning.specs.Machine.{words_machine}
-use Rattle.flat_meaning.specs.Stages.{Stage, starts, going, landed, Before, looks, steps, nothing, before, before_here, Gone, gone, gone_from, ran_to, past_if, ending_if}
+use Rattle.flat_meaning.specs.Stages.{Stage, starts, going, landed, Before, looks, steps, nothing, before, before_here, Advance, advanced, advanced_from, at_next_stop, past_safepoint, ending_if}
 use Rattle.flat_meaning.specs.Effects.{landing}
 use Rattle.flat_meaning.specs.Local.{stop_at, stop_before, stopped_or, local_within, goes_for, local}
 use Rattle.flat_threads.specs.Contexts.{own_image}
@@ -59,15 +59,15 @@ module _ (instrs : List Instr) (shrinks : Shrinks (flow instrs)) where
     stops_now : (n turns : ℕ) (stage : Stage Spot) → stop_at own most turns stage ≡ Some AtStep → local_within own 0 most n turns stage ≡ Some (record { stage = stage; turns = turns; stop = AtStep })
     unfolding local_within
     stops_now zero turns stage e = ap (λ s. stopped_or stage turns s None) e
-    stops_now (suc n) turns stage e = ap (λ s. stopped_or stage turns s (let g = gone own 0 stage in local_within own 0 most n (turns + g.turns) (going g.thread))) e
+    stops_now (suc n) turns stage e = ap (λ s. stopped_or stage turns s (let g = advanced own 0 stage in local_within own 0 most n (turns + g.turns) (going g.thread))) e
 
     -- a thread that goes on up to there
-    goes_once : (n : ℕ) (stage : Stage Spot) (q : Thread Spot Words) → stop_at own most 0 stage ≡ None → gone own 0 stage ≡ record { thread = q; turns = 0 } → AtAStop (before own q)
+    goes_once : (n : ℕ) (stage : Stage Spot) (q : Thread Spot Words) → stop_at own most 0 stage ≡ None → advanced own 0 stage ≡ record { thread = q; turns = 0 } → AtAStop (before own q)
         → local_within own 0 most (suc n) 0 stage ≡ Some (record { stage = going q; turns = 0; stop = AtStep })
     unfolding local_within
     goes_once n stage q none g at =
-        ap (λ s. stopped_or stage 0 s (let g = gone own 0 stage in local_within own 0 most n (0 + g.turns) (going g.thread))) none
-        ∙ (ap (λ (g : Gone Spot). local_within own 0 most n (0 + g.turns) (going g.thread)) g ∙ stops_now n 0 (going q) (stop_is 0 q at))
+        ap (λ s. stopped_or stage 0 s (let g = advanced own 0 stage in local_within own 0 most n (0 + g.turns) (going g.thread))) none
+        ∙ (ap (λ (g : Advance Spot). local_within own 0 most n (0 + g.turns) (going g.thread)) g ∙ stops_now n 0 (going q) (stop_is 0 q at))
 
     some_goes : (m : ℕ) → 0 < m → (n : ℕ) × (m ≡ suc n)
     some_goes zero h = absurd (omega (arith, h))
@@ -77,9 +77,9 @@ module _ (instrs : List Instr) (shrinks : Shrinks (flow instrs)) where
     enough = some_goes (goes_for own most) (mul-pos (omega arith) (omega arith))
 
     -- where it stops, by its stage and what comes of its run
-    to_stop : (t : Thread Spot Words) (q : Point Spot Words) → run own.flow (words_machine own.layout 0) t.top ≡ Ok q → AtAStop (before own (record { top = q; callers = t.callers })) → gone_from own 0 t ≡ record { thread = record { top = q; callers = t.callers }; turns = 0 }
-    to_stop t q e (inl h) = ap (λ r. let p = ran_to t r in ending_if own p (before own p)) e ∙ ap (ending_if own (record { top = q; callers = t.callers })) h
-    to_stop t q e (inr h) = ap (λ r. let p = ran_to t r in ending_if own p (before own p)) e ∙ ap (ending_if own (record { top = q; callers = t.callers })) h
+    to_stop : (t : Thread Spot Words) (q : Point Spot Words) → run own.flow (words_machine own.layout 0) t.top ≡ Ok q → AtAStop (before own (record { top = q; callers = t.callers })) → advanced_from own 0 t ≡ record { thread = record { top = q; callers = t.callers }; turns = 0 }
+    to_stop t q e (inl h) = ap (λ r. let p = at_next_stop t r in ending_if own p (before own p)) e ∙ ap (ending_if own (record { top = q; callers = t.callers })) h
+    to_stop t q e (inr h) = ap (λ r. let p = at_next_stop t r in ending_if own p (before own p)) e ∙ ap (ending_if own (record { top = q; callers = t.callers })) h
 
     -- ---- where it stops
 
@@ -97,7 +97,7 @@ module _ (instrs : List Instr) (shrinks : Shrinks (flow instrs)) where
       pub count : stops rest ≡ stops ns
 
     goes_to : (early : Bool) (ns : Nodes) (i : ℕ) (l : Words) (stage : Stage Spot) (c : Comes instrs shrinks own.layout early ns i l) → stop_at own most 0 stage ≡ None
-        → gone own 0 stage ≡ gone_from own 0 (alone i l) → StopsAt early ns stage
+        → advanced own 0 stage ≡ advanced_from own 0 (alone i l) → StopsAt early ns stage
     goes_to early ns i l stage c none g =
         let at = stands_first c.rest c.at c.own c.first c.sits in
         let n = enough in
@@ -120,8 +120,8 @@ module _ (instrs : List Instr) (shrinks : Shrinks (flow instrs)) where
 
     -- a set is first
     set_first : (early : Bool) (ns : Nodes) (i : ℕ) (l : Words) (o : Option (List ℕ)) → before own (alone i l) ≡ nothing → Comes instrs shrinks own.layout early ns i l → StopsAt early ns (landing o (alone i l))
-    set_first early ns i l None e c = goes_to early ns i l (going (alone i l)) c (ap (stop_before own most 0 (alone i l)) e) (ap (λ b. gone_from own 0 (past_if own (alone i l) b)) e)
-    set_first early ns i l (Some list) e c = goes_to early ns i l (landed list (alone i l)) c (ap (stop_before own most 0 (alone i l)) e) (ap (λ b. gone_from own 0 (past_if own (alone i l) b)) e)
+    set_first early ns i l None e c = goes_to early ns i l (going (alone i l)) c (ap (stop_before own most 0 (alone i l)) e) (ap (λ b. advanced_from own 0 (past_safepoint own (alone i l) b)) e)
+    set_first early ns i l (Some list) e c = goes_to early ns i l (landed list (alone i l)) c (ap (stop_before own most 0 (alone i l)) e) (ap (λ b. advanced_from own 0 (past_safepoint own (alone i l) b)) e)
 
     at_once : (early : Bool) (ns : Nodes) (i : ℕ) (l : Words) (o : Option (List ℕ)) → Flat ns → StopsFirst instrs ns → Asked early ns l.temps → Sits instrs ns i → StopsAt early ns (landing o (alone i l))
     at_once early ns i l o f first asked sits = record {

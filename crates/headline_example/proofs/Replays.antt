@@ -30,9 +30,9 @@ use Rattle.flat_rules.specs.Machine.{Machine, Acted, Turned}
 use Rattle.flat_rules.specs.Machine as turns
 use Rattle.flat_rules.specs.Draws.{after_draw}
 use Rattle.flat_rules.specs.Entries.{out_entry, turn_entry, how_of}
-use Rattle.flat_rules.specs.Events.{Event, Goes, on, goes, goes_out, turn_event, turned_by, mood_after, come_home, turned_state, ends_with}
+use Rattle.flat_rules.specs.Events.{Event, Goes, on, goes, goes_out, turn_event, turned_by, mood_after, is_called_home, turned_state, ends_with}
 use Rattle.ak_trace.specs.declared.endings.End.TheVariants.{AllBlocked, TurnLimit}
-use Rattle.flat_rules.specs.States.{is_blocked, or_else, State, Place, unbegun, home, out, gone, Mood, free, asked, must, place_at, unbegun_from, start}
+use Rattle.flat_rules.specs.States.{is_blocked, or_else, RunState, Place, unbegun, home, out, gone, Mood, free, asked, must, place_at, unbegun_from, start}
 use Rattle.flat_rules.specs.Replays.{event_at, step, run}
 use Rattle.flat_rules.specs.inner.Cases.{Cases, Holds, event_holds}
 use Rattle.flat_rules.specs.inner.Steps.{entry_is, IsNext, IsFirst, step_cases}
@@ -165,7 +165,7 @@ module _ (instrs : List Instr) (shrinks : Shrinks (flow instrs)) (entries : ℕ)
   r = record { workers = 1; schedule = None; every = None; entries = entries; evacuates = false }
 
   abbrev S : Type 0
-  S = State Shared Context
+  S = RunState Shared Context
 
   abbrev thread : ℕ → Words → Thread Spot Words
   thread i l = alone instrs shrinks i l
@@ -347,7 +347,7 @@ module _ (instrs : List Instr) (shrinks : Shrinks (flow instrs)) (entries : ℕ)
       stage1 = landing n.list (thread n.at n.words)
 
       abbrev calls_home : Bool
-      calls_home = come_home m r x0 0 (o.k + 1) (turned_state m r x0 0 0 did (out 0 did.context (o.k + 1) (mood_of o.is_asked)))
+      calls_home = is_called_home m r x0 0 (o.k + 1) (turned_state m r x0 0 0 did (out 0 did.context (o.k + 1) (mood_of o.is_asked)))
 
       abbrev by_effect : Effect Spot → Option End → Mood → S
       by_effect e end mood = record {

@@ -23,7 +23,7 @@ use Rattle.flat_threads.specs.Contexts.{Context}
 use Rattle.flat_rules.specs.declared.settings.Settings.{Settings}
 use Rattle.flat_rules.specs.Rules.{Rules, rules_of}
 use Rattle.flat_rules.specs.Machine.{Machine}
-use Rattle.flat_rules.specs.States.{State, or_else, is_blocked, start}
+use Rattle.flat_rules.specs.States.{RunState, or_else, is_blocked, start}
 use Rattle.flat_rules.specs.Replays.{run, settled}
 use Rattle.flat_rules.specs.Replays as rules
 use Rattle.flat_machine.specs.Choices.{malloc_choice}
@@ -70,7 +70,7 @@ gets (t ∷ ts) h e =
 
 -- ---- a whole journal
 
-settled_run : {S C : Type 0} (m : Machine S C) (r : Rules) (o : Option (State S C)) (z : State S C) → option_and_then (settled m r) o ≡ Some z → o ≡ Some z
+settled_run : {S C : Type 0} (m : Machine S C) (r : Rules) (o : Option (RunState S C)) (z : RunState S C) → option_and_then (settled m r) o ≡ Some z → o ≡ Some z
 settled_run m r None z e = absurd (cc e)
 settled_run m r (Some x) z e = at (length x.due == 0) e
   where
@@ -97,7 +97,7 @@ module _ (instrs : List Instr) (shrinks : Shrinks (flow instrs)) (ns : Nodes) (f
   chooses : malloc_choice memory.storage 0 4 ≡ got 0 0
   chooses = first_choice memory.storage s.ids 65535 1048575 refl d.ids refl d.subheap room
 
-  comes : (log : List Entry) (z : State Shared Context) → replay code s log ≡ Some z
+  comes : (log : List Entry) (z : RunState Shared Context) → replay code s log ≡ Some z
       → Whole instrs shrinks s.entries memory chooses memory.storage [] s.output [] no_barriers refl (stops ns) log z
   comes log z e =
       whole instrs shrinks s.entries memory chooses memory.storage [] s.output [] no_barriers refl ns f early sits log z
@@ -107,7 +107,7 @@ module _ (instrs : List Instr) (shrinks : Shrinks (flow instrs)) (ns : Nodes) (f
   pub room_of : (log : List Entry) (g : Final) → final_of code s log ≡ Some g → HasRoom log g
   room_of log g e = at (replay code s log) refl e
     where
-      at : (o : Option (State Shared Context)) → replay code s log ≡ o → option_map (final_at code s log) o ≡ Some g → HasRoom log g
+      at : (o : Option (RunState Shared Context)) → replay code s log ≡ o → option_map (final_at code s log) o ≡ Some g → HasRoom log g
       at None is e = absurd (cc e)
       at (Some z) is e =
           let h = comes log z is in

@@ -15,7 +15,7 @@ use Rattle.flat_meaning.specs.Words.{Words, word_at, target_of}
 use Rattle.flat_meaning.specs.Memory.{Memory, with_storage}
 use Rattle.flat_meaning.specs.Accesses as accesses
 use Rattle.flat_meaning.specs.Accesses.{got, null, wait, with_object}
-use Rattle.flat_meaning.specs.Actions.{acted}
+use Rattle.flat_meaning.specs.Actions.{acted_on_memory}
 use Rattle.flat_meaning.specs.Effects.{landing}
 use Rattle.flat_machine.specs.Choices.{least_free, is_apart, fits_at, lowest_fit, got_or, room_or, malloc_choice, action_choice}
 use Rattle.flat_machine.specs.lemmas.Steps.{choice_at, done_at}
@@ -82,10 +82,10 @@ module _ (instrs : List Instr) (shrinks : Shrinks (flow instrs)) (limits : Limit
       ∙ (ap (λ ts. action_choice (malloc_choice m.storage) l malloc ts) h.2.1
       ∙ (ap (malloc_choice m.storage 0) h.2.2 ∙ (ap (λ (n : Memory). malloc_choice n.storage 0 4) (still refl) ∙ chooses))) in
       let done_is : done_at x 0 m place s l ≡ accesses.went (Some (handle_of 0 0)) (with_storage m (with_object m.storage 0 0 (word_at l size))) =
-      ap (λ c. acted x.layout 0 c s.action (map (target_of l) s.places) (map (word_at l) s.temps) m) chosen
-      ∙ (ap (λ a. acted x.layout 0 (got 0 0) a (map (target_of l) s.places) (map (word_at l) s.temps) m) h.0
-      ∙ (ap (λ ps. acted x.layout 0 (got 0 0) malloc (map (target_of l) ps) (map (word_at l) s.temps) m) h.1
-      ∙ ap (λ ts. acted x.layout 0 (got 0 0) malloc [] (map (word_at l) ts) m) h.2.1)) in
+      ap (λ c. acted_on_memory x.layout 0 c s.action (map (target_of l) s.places) (map (word_at l) s.temps) m) chosen
+      ∙ (ap (λ a. acted_on_memory x.layout 0 (got 0 0) a (map (target_of l) s.places) (map (word_at l) s.temps) m) h.0
+      ∙ (ap (λ ps. acted_on_memory x.layout 0 (got 0 0) malloc (map (target_of l) ps) (map (word_at l) s.temps) m) h.1
+      ∙ ap (λ ts. acted_on_memory x.layout 0 (got 0 0) malloc [] (map (word_at l) ts) m) h.2.1)) in
       inl (malloc_on instrs shrinks limits first m place s rest i l o f sits h.0 0 0 (handle_of 0 0) (with_storage m (with_object m.storage 0 0 (word_at l size))) refl refl chosen done_is asked.1)
 
   pub turn_goes : (early : Bool) (ns : Nodes) (i : ℕ) (l : Words) (o : Option (List ℕ)) → Flat ns → StopsFirst instrs ns → Asked early ns l.temps → Sits instrs ns i → (early ≡ true → m ≡ first) → Goes early ns i l o

@@ -4,7 +4,7 @@ use Rattle.std.proofs.lemmas.Bool.{eqb-true, eq-eqb, ne_eqb, both_ways}
 use Rattle.std.specs.Prelude.{not}
 use Rattle.struct_ir.specs.Nodes.{Act, set, call, step, look, safepoint, begin_object, end_object, Node, plain, if_, loop, break_, next_, ret, Nodes, no_nodes, more_nodes, node_place}
 use Rattle.struct_ir.specs.Erased.{put}
-use Rattle.pin_flow.specs.Marks.{State, bad, after, at, Ways, in_turn, either, round_of, head_of, end_state, flow, flow_node}
+use Rattle.pin_flow.specs.Marks.{AllPaths, bad, after, at, Ways, in_turn, either, round_of, head_of, end_state, flow, flow_node}
 use Rattle.pin_flow.specs.Looks.{act_looks, act_assigns, some_act}
 use Rattle.pin_flow.specs.Held.{held}
 use Rattle.pin_flow.proofs.Strip.{by_bool, also_same, some_sifted, idle_after, flow_sifted}
@@ -25,18 +25,18 @@ not_in (c ∷ bs) b absent = (λ i. ne_eqb b c absent.0 i || is_in bs b) ∙ not
 
 module _ (b c : ℕ) (apart : b ≡ c → ⊥) where
   -- what holds of c isn't changed by it
-  look_idle : (s : ℕ) (t : State) → after (held c (look s b)) t ≡ t
+  look_idle : (s : ℕ) (t : AllPaths) → after (held c (look s b)) t ≡ t
   look_idle s t = idle_after (no_look_of b) (held c) (other_idle b c apart) (look s b) (ap not (is_look s b)) t
 
-  flow_without : (ns : Nodes) (t u : State) → flow (held c) (dropped b ns t) u ≡ flow (held c) ns u
+  flow_without : (ns : Nodes) (t u : AllPaths) → flow (held c) (dropped b ns t) u ≡ flow (held c) ns u
   flow_without ns t u =
       sym (flow_sifted (no_look_of b) (held c) (other_idle b c apart) (dropped b ns t) u)
       ∙ (ap (λ x. flow (held c) x u) (strip_dropped b ns t) ∙ flow_sifted (no_look_of b) (held c) (other_idle b c apart) ns u)
 
-  rows_without : (ns : Nodes) (t : State) → flow (held c) (dropped b ns t) ≡ flow (held c) ns
+  rows_without : (ns : Nodes) (t : AllPaths) → flow (held c) (dropped b ns t) ≡ flow (held c) ns
   rows_without ns t = λ i u. flow_without ns t u i
 
-  node_without : (n : Node) (t u : State) → flow_node (held c) (dropped_in b n t) u ≡ flow_node (held c) n u
+  node_without : (n : Node) (t u : AllPaths) → flow_node (held c) (dropped_in b n t) u ≡ flow_node (held c) n u
   unfolding flow
   node_without (plain p a) t u = refl
   node_without (if_ p x one other) t u = λ i. either (flow_without one t u i) (flow_without other t u i)
@@ -55,13 +55,13 @@ module _ (b c : ℕ) (apart : b ≡ c → ⊥) where
       → some_act (act_assigns c) body' ≡ some_act (act_assigns c) body → some_act (act_assigns c) latch' ≡ some_act (act_assigns c) latch → wants c (loop p' body' latch') ≡ wants c (loop p body latch)
   wants_alike p p' body body' latch latch' e f g h = λ i. (e i || f i) && not (g i || h i)
 
-  some_dropped : (f : Act → Bool) → ((a : Act) → no_look_of b a ≡ false → f a ≡ false) → (ns : Nodes) (t : State) → some_act f (dropped b ns t) ≡ some_act f ns
+  some_dropped : (f : Act → Bool) → ((a : Act) → no_look_of b a ≡ false → f a ≡ false) → (ns : Nodes) (t : AllPaths) → some_act f (dropped b ns t) ≡ some_act f ns
   some_dropped f blind ns t = sym (some_sifted (no_look_of b) f blind (dropped b ns t)) ∙ (ap (some_act f) (strip_dropped b ns t) ∙ some_sifted (no_look_of b) f blind ns)
 
   some_lifted : (slot : ℕ) (f : Act → Bool) → ((a : Act) → no_look_of b a ≡ false → f a ≡ false) → (ns : Nodes) → some_act f (lifted slot b ns) ≡ some_act f ns
   some_lifted slot f blind ns = sym (some_sifted (no_look_of b) f blind (lifted slot b ns)) ∙ (ap (some_act f) (strip_lifted b slot ns) ∙ some_sifted (no_look_of b) f blind ns)
 
-  wants_dropped : (p : ℕ) (body latch : Nodes) (t u : State) → wants c (loop p (dropped b body t) (dropped b latch u)) ≡ wants c (loop p body latch)
+  wants_dropped : (p : ℕ) (body latch : Nodes) (t u : AllPaths) → wants c (loop p (dropped b body t) (dropped b latch u)) ≡ wants c (loop p body latch)
   wants_dropped p body latch t u =
       wants_alike p p body (dropped b body t) latch (dropped b latch u) (some_dropped (act_looks c) (other_looks b c apart) body t) (some_dropped (act_looks c) (other_looks b c apart) latch u)
       (some_dropped (act_assigns c) (look_assigns_none b c) body t) (some_dropped (act_assigns c) (look_assigns_none b c) latch u)
@@ -95,10 +95,10 @@ module _ (slot_of : ℕ → ℕ) where
 
   module _ (b : ℕ) where
     -- a Look of another register stays
-    other_needed : (c p s : ℕ) (t : State) → (b ≡ c → ⊥) → needs b (plain p (look s c)) t ≡ true
+    other_needed : (c p s : ℕ) (t : AllPaths) → (b ≡ c → ⊥) → needs b (plain p (look s c)) t ≡ true
     other_needed c p s t apart = ap (λ x. not x || is_bad t) (ne_eqb c b (λ h. apart (sym h)))
 
-    looks_pass : (bs : List ℕ) → IsNotIn bs b → (n : Node) (rest : Nodes) (t : State) → dropped b (looks_for slot_of bs n rest) t ≡ looks_for slot_of bs n (dropped b rest t)
+    looks_pass : (bs : List ℕ) → IsNotIn bs b → (n : Node) (rest : Nodes) (t : AllPaths) → dropped b (looks_for slot_of bs n rest) t ≡ looks_for slot_of bs n (dropped b rest t)
     unfolding flow
     looks_pass [] absent n rest t = refl
     looks_pass (c ∷ bs) absent n rest t =
@@ -109,7 +109,7 @@ module _ (slot_of : ℕ → ℕ) where
         (λ e. (λ i. put (other_needed c (node_place n) (slot_of c) t absent.0 i) l (dropped b inner (idle i))) ∙ ap (more_nodes l) (looks_pass bs absent.1 n rest t))
         (λ e. looks_pass bs absent.1 n rest t)
 
-    looks_quiet : (bs : List ℕ) → IsNotIn bs b → (n : Node) (rest : Nodes) (t : State) → flow (held b) (looks_for slot_of bs n rest) t ≡ flow (held b) rest t
+    looks_quiet : (bs : List ℕ) → IsNotIn bs b → (n : Node) (rest : Nodes) (t : AllPaths) → flow (held b) (looks_for slot_of bs n rest) t ≡ flow (held b) rest t
     unfolding flow
     looks_quiet [] absent n rest t = refl
     looks_quiet (c ∷ bs) absent n rest t =
@@ -129,13 +129,13 @@ module _ (slot_of : ℕ → ℕ) where
     mutual
       unfolding flow
 
-      flow_all : (ns : Nodes) (t : State) → flow (held b) (all ns) t ≡ flow (held b) ns t
+      flow_all : (ns : Nodes) (t : AllPaths) → flow (held b) (all ns) t ≡ flow (held b) ns t
       flow_all no_nodes t = refl
       flow_all (more_nodes n rest) t =
           looks_quiet b bs absent n (more_nodes (lifted_all_in slot_of bs n) (all rest)) t
           ∙ also_same (held b) n (lifted_all_in slot_of bs n) rest (all rest) t (flow_all_in n t) (flow_all rest _)
 
-      flow_all_in : (n : Node) (t : State) → flow_node (held b) (lifted_all_in slot_of bs n) t ≡ flow_node (held b) n t
+      flow_all_in : (n : Node) (t : AllPaths) → flow_node (held b) (lifted_all_in slot_of bs n) t ≡ flow_node (held b) n t
       flow_all_in (plain p a) t = refl
       flow_all_in (if_ p x one other) t = λ i. either (flow_all one t i) (flow_all other t i)
       flow_all_in (loop p body latch) t =
@@ -147,11 +147,11 @@ module _ (slot_of : ℕ → ℕ) where
       flow_all_in (ret p x) t = refl
 
     -- what is behind a node
-    behind : (n : Node) (rest : Nodes) (t : State) → ((u : State) → all (dropped b rest u) ≡ dropped b (all rest) u)
+    behind : (n : Node) (rest : Nodes) (t : AllPaths) → ((u : AllPaths) → all (dropped b rest u) ≡ dropped b (all rest) u)
         → all (dropped b rest (flow_node (held b) n t).on) ≡ dropped b (all rest) (flow_node (held b) (lifted_all_in slot_of bs n) t).on
     behind n rest t known = known (flow_node (held b) n t).on ∙ ap (λ (o : Ways). dropped b (all rest) o.on) (sym (flow_all_in n t))
 
-    past : (ns : Nodes) (t : State) → all (dropped b ns t) ≡ dropped b (all ns) t
+    past : (ns : Nodes) (t : AllPaths) → all (dropped b ns t) ≡ dropped b (all ns) t
     unfolding flow
     past no_nodes t = refl
     past (more_nodes (plain p a) rest) t =
@@ -221,31 +221,31 @@ module _ (b : ℕ) (those : ℕ → Bool) (out : those b ≡ false) where
   more c = (c == b) || those c
 
   -- the same states of those
-  abbrev Agree : (ℕ → State) → (ℕ → State) → Type 0
+  abbrev Agree : (ℕ → AllPaths) → (ℕ → AllPaths) → Type 0
   Agree t u = (c : ℕ) → those c ≡ true → t c ≡ u c
 
   apart : (c : ℕ) → those c ≡ true → b ≡ c → ⊥
   apart c e h = both_ways (those c) (ap those (sym h) ∙ out) e
 
-  same_stay : (c : ℕ) (t u : ℕ → State) → Agree t u → (not (those c) || is_bad (t c)) ≡ (not (those c) || is_bad (u c))
+  same_stay : (c : ℕ) (t u : ℕ → AllPaths) → Agree t u → (not (those c) || is_bad (t c)) ≡ (not (those c) || is_bad (u c))
   same_stay c t u agree = by_bool (λ x. those c ≡ x → (not x || is_bad (t c)) ≡ (not x || is_bad (u c))) (those c) (λ e k. ap is_bad (agree c e)) (λ e k. refl) refl
 
-  agree_on : (n n' : Node) (t u : ℕ → State) → ((c : ℕ) → (b ≡ c → ⊥) → (s : State) → flow_node (held c) n' s ≡ flow_node (held c) n s) → Agree t u
+  agree_on : (n n' : Node) (t u : ℕ → AllPaths) → ((c : ℕ) → (b ≡ c → ⊥) → (s : AllPaths) → flow_node (held c) n' s ≡ flow_node (held c) n s) → Agree t u
       → Agree (λ c. (flow_node (held c) n (t c)).on) (λ c. (flow_node (held c) n' (u c)).on)
   agree_on n n' t u same agree c e = ap (λ s. (flow_node (held c) n s).on) (agree c e) ∙ ap (λ (o : Ways). o.on) (sym (same c (apart c e) (u c)))
 
   -- what is so of the nodes behind
   abbrev Known : Nodes → Type 0
-  Known rest = (t u : ℕ → State) → Agree t u → dropped_all more rest t ≡ dropped_all those (dropped b rest (t b)) u
+  Known rest = (t u : ℕ → AllPaths) → Agree t u → dropped_all more rest t ≡ dropped_all those (dropped b rest (t b)) u
 
   -- a Look of b
-  own_look : (p s : ℕ) (rest : Nodes) → Known rest → (t u : ℕ → State) → Agree t u → dropped_all more (more_nodes (plain p (look s b)) rest) t ≡ dropped_all those (dropped b (more_nodes (plain p (look s b)) rest) (t b)) u
+  own_look : (p s : ℕ) (rest : Nodes) → Known rest → (t u : ℕ → AllPaths) → Agree t u → dropped_all more (more_nodes (plain p (look s b)) rest) t ≡ dropped_all those (dropped b (more_nodes (plain p (look s b)) rest) (t b)) u
   unfolding flow
   own_look p s rest known t u agree =
       let n = plain p (look s b) in
       let same : (b == b) ≡ true = eq-eqb b b refl in
-      let t' : ℕ → State = λ c. after (held c (look s b)) (t c) in
-      let u' : ℕ → State = λ c. after (held c (look s b)) (u c) in
+      let t' : ℕ → AllPaths = λ c. after (held c (look s b)) (t c) in
+      let u' : ℕ → AllPaths = λ c. after (held c (look s b)) (u c) in
       let first : stays more (look s b) t ≡ is_bad (t b) = ap (λ x. not (x || those b) || is_bad (t b)) same in
       let second : needs b n (t b) ≡ is_bad (t b) = ap (λ x. not x || is_bad (t b)) same in
       let kept : stays those (look s b) u ≡ true = ap (λ x. not x || is_bad (u b)) out in
@@ -256,33 +256,33 @@ module _ (b : ℕ) (those : ℕ → Bool) (out : those b ≡ false) where
       ∙ sym (λ i. dropped_all those (put (second i) n (dropped b rest (t' b))) u))
 
   -- any other Look
-  other_look : (p s c : ℕ) → (c == b) ≡ false → (rest : Nodes) → Known rest → (t u : ℕ → State) → Agree t u
+  other_look : (p s c : ℕ) → (c == b) ≡ false → (rest : Nodes) → Known rest → (t u : ℕ → AllPaths) → Agree t u
       → dropped_all more (more_nodes (plain p (look s c)) rest) t ≡ dropped_all those (dropped b (more_nodes (plain p (look s c)) rest) (t b)) u
   unfolding flow
   other_look p s c ne rest known t u agree =
       let n = plain p (look s c) in
-      let t' : ℕ → State = λ d. after (held d (look s c)) (t d) in
-      let u' : ℕ → State = λ d. after (held d (look s c)) (u d) in
+      let t' : ℕ → AllPaths = λ d. after (held d (look s c)) (t d) in
+      let u' : ℕ → AllPaths = λ d. after (held d (look s c)) (u d) in
       let first : stays more (look s c) t ≡ stays those (look s c) u = ap (λ x. not (x || those c) || is_bad (t c)) ne ∙ same_stay c t u agree in
       let second : needs b n (t b) ≡ true = ap (λ x. not x || is_bad (t b)) ne in
       let r = known t' u' (λ d e. ap (after (held d (look s c))) (agree d e)) in
       (λ i. put (first i) n (r i)) ∙ sym (λ i. dropped_all those (put (second i) n (dropped b rest (t' b))) u)
 
   -- any other act
-  other_act : (p : ℕ) (a : Act) (rest : Nodes) → Known rest → (t u : ℕ → State) → Agree t u → stays more a t ≡ true → stays those a u ≡ true → needs b (plain p a) (t b) ≡ true
+  other_act : (p : ℕ) (a : Act) (rest : Nodes) → Known rest → (t u : ℕ → AllPaths) → Agree t u → stays more a t ≡ true → stays those a u ≡ true → needs b (plain p a) (t b) ≡ true
       → dropped_all more (more_nodes (plain p a) rest) t ≡ dropped_all those (dropped b (more_nodes (plain p a) rest) (t b)) u
   unfolding flow
   other_act p a rest known t u agree x y z =
       let n = plain p a in
-      let t' : ℕ → State = λ c. after (held c a) (t c) in
-      let u' : ℕ → State = λ c. after (held c a) (u c) in
+      let t' : ℕ → AllPaths = λ c. after (held c a) (t c) in
+      let u' : ℕ → AllPaths = λ c. after (held c a) (u c) in
       let r = known t' u' (λ c e. ap (after (held c a)) (agree c e)) in
       (λ i. put (x i) n (r i)) ∙ (sym (λ i. put (y i) n (dropped_all those (dropped b rest (t' b)) u')) ∙ sym (λ i. dropped_all those (put (z i) n (dropped b rest (t' b))) u))
 
   mutual
     unfolding flow
 
-    both_dropped : (ns : Nodes) (t u : ℕ → State) → Agree t u → dropped_all more ns t ≡ dropped_all those (dropped b ns (t b)) u
+    both_dropped : (ns : Nodes) (t u : ℕ → AllPaths) → Agree t u → dropped_all more ns t ≡ dropped_all those (dropped b ns (t b)) u
     both_dropped no_nodes t u agree = refl
     both_dropped (more_nodes (plain p (set to calc)) rest) t u agree = other_act p (set to calc) rest (both_dropped rest) t u agree refl refl refl
     both_dropped (more_nodes (plain p (call c)) rest) t u agree = other_act p (call c) rest (both_dropped rest) t u agree refl refl refl
@@ -302,10 +302,10 @@ module _ (b : ℕ) (those : ℕ → Bool) (out : those b ≡ false) where
         λ i. more_nodes (if_ p x (f i) (g i)) (r i)
     both_dropped (more_nodes (loop p body latch) rest) t u agree =
         let n = loop p body latch in
-        let h : ℕ → State = λ c. head_of (flow (held c) body) (flow (held c) latch) (t c) in
-        let z : ℕ → State = λ c. end_state (flow (held c) body (h c)) in
-        let h' : ℕ → State = λ c. head_of (flow (held c) (dropped b body (h b))) (flow (held c) (dropped b latch (z b))) (u c) in
-        let z' : ℕ → State = λ c. end_state (flow (held c) (dropped b body (h b)) (h' c)) in
+        let h : ℕ → AllPaths = λ c. head_of (flow (held c) body) (flow (held c) latch) (t c) in
+        let z : ℕ → AllPaths = λ c. end_state (flow (held c) body (h c)) in
+        let h' : ℕ → AllPaths = λ c. head_of (flow (held c) (dropped b body (h b))) (flow (held c) (dropped b latch (z b))) (u c) in
+        let z' : ℕ → AllPaths = λ c. end_state (flow (held c) (dropped b body (h b)) (h' c)) in
         let heads : Agree h h' = λ c d i. head_of (sym (rows_without b c (apart c d) body (h b)) i) (sym (rows_without b c (apart c d) latch (z b)) i) (agree c d i) in
         let ends : Agree z z' = λ c d i. end_state (sym (rows_without b c (apart c d) body (h b)) i (heads c d i)) in
         let f = both_dropped body h h' heads in
@@ -331,7 +331,7 @@ mutual
   none_lifted_in slot_of (next_ p) = refl
   none_lifted_in slot_of (ret p x) = refl
 
-none_stay : (a : Act) (t : ℕ → State) → stays (is_in []) a t ≡ true
+none_stay : (a : Act) (t : ℕ → AllPaths) → stays (is_in []) a t ≡ true
 none_stay (set to calc) t = refl
 none_stay (call c) t = refl
 none_stay (step x) t = refl
@@ -341,7 +341,7 @@ none_stay (begin_object i) t = refl
 none_stay (end_object i) t = refl
 
 mutual
-  none_dropped : (ns : Nodes) (t : ℕ → State) → dropped_all (is_in []) ns t ≡ ns
+  none_dropped : (ns : Nodes) (t : ℕ → AllPaths) → dropped_all (is_in []) ns t ≡ ns
   none_dropped no_nodes t = refl
   none_dropped (more_nodes (plain p a) rest) t =
       let s = none_stay a t in
@@ -359,11 +359,11 @@ mutual
   none_dropped (more_nodes (next_ p) rest) t = ap (more_nodes (next_ p)) (none_dropped rest _)
   none_dropped (more_nodes (ret p x) rest) t = ap (more_nodes (ret p x)) (none_dropped rest _)
 
-  none_dropped_in : (n : Node) (t : ℕ → State) → dropped_all_in (is_in []) n t ≡ n
+  none_dropped_in : (n : Node) (t : ℕ → AllPaths) → dropped_all_in (is_in []) n t ≡ n
   none_dropped_in (plain p a) t = refl
   none_dropped_in (if_ p x one other) t = let f = none_dropped one t in let g = none_dropped other t in λ i. if_ p x (f i) (g i)
   none_dropped_in (loop p body latch) t =
-      let h : ℕ → State = λ b. head_of (flow (held b) body) (flow (held b) latch) (t b) in
+      let h : ℕ → AllPaths = λ b. head_of (flow (held b) body) (flow (held b) latch) (t b) in
       let f = none_dropped body h in
       let g = none_dropped latch (λ b. end_state (flow (held b) body (h b))) in
       λ i. loop p (f i) (g i)

@@ -4,7 +4,7 @@ use Rattle.std.specs.Prelude.{not, is_some}
 use Rattle.struct_ir.specs.Nodes.{set, call, step, look, safepoint, begin_object, end_object, Node, plain, if_, loop, break_, next_, ret, Nodes, no_nodes, more_nodes}
 use Rattle.struct_ir.specs.Erased.{put}
 use Rattle.pin_flow.specs.declared.mark.Mark.TheVariants as kinds
-use Rattle.pin_flow.specs.Marks.{State, bad, state_of, head_of, end_state, flow, flow_node}
+use Rattle.pin_flow.specs.Marks.{AllPaths, bad, state_of, head_of, end_state, flow, flow_node}
 use Rattle.pin_flow.specs.Held.{held}
 use Rattle.pin_flow.specs.Slots.{slot_in, slot_if, one_more}
 use Rattle.pin_flow.proofs.Strip.{by_bool}
@@ -21,10 +21,10 @@ use Rattle.hoist_pass.proofs.Programs.{hoisted_is}
 -- ---- other states of registers that aren't those
 
 module _ (those : ℕ → Bool) where
-  abbrev Agree : (ℕ → State) → (ℕ → State) → Type 0
+  abbrev Agree : (ℕ → AllPaths) → (ℕ → AllPaths) → Type 0
   Agree t u = (c : ℕ) → those c ≡ true → t c ≡ u c
 
-  same_stays : (n : Node) (t u : ℕ → State) → Agree t u → node_stays those n t ≡ node_stays those n u
+  same_stays : (n : Node) (t u : ℕ → AllPaths) → Agree t u → node_stays those n t ≡ node_stays those n u
   same_stays (plain p (set to calc)) t u agree = refl
   same_stays (plain p (call c)) t u agree = refl
   same_stays (plain p (step x)) t u agree = refl
@@ -39,7 +39,7 @@ module _ (those : ℕ → Bool) where
   same_stays (ret p x) t u agree = refl
 
   mutual
-    same_dropped : (ns : Nodes) (t u : ℕ → State) → Agree t u → dropped_all those ns t ≡ dropped_all those ns u
+    same_dropped : (ns : Nodes) (t u : ℕ → AllPaths) → Agree t u → dropped_all those ns t ≡ dropped_all those ns u
     same_dropped no_nodes t u agree = refl
     same_dropped (more_nodes n rest) t u agree =
         let k = same_stays n t u agree in
@@ -47,11 +47,11 @@ module _ (those : ℕ → Bool) where
         let r = same_dropped rest (λ c. (flow_node (held c) n (t c)).on) (λ c. (flow_node (held c) n (u c)).on) (λ c e. ap (λ s. (flow_node (held c) n s).on) (agree c e)) in
         λ i. put (k i) (m i) (r i)
 
-    same_in : (n : Node) (t u : ℕ → State) → Agree t u → dropped_all_in those n t ≡ dropped_all_in those n u
+    same_in : (n : Node) (t u : ℕ → AllPaths) → Agree t u → dropped_all_in those n t ≡ dropped_all_in those n u
     same_in (plain p a) t u agree = refl
     same_in (if_ p x one other) t u agree = let f = same_dropped one t u agree in let g = same_dropped other t u agree in λ i. if_ p x (f i) (g i)
     same_in (loop p body latch) t u agree =
-        let head : ℕ → State → State = λ c. head_of (flow (held c) body) (flow (held c) latch) in
+        let head : ℕ → AllPaths → AllPaths = λ c. head_of (flow (held c) body) (flow (held c) latch) in
         let f = same_dropped body (λ c. head c (t c)) (λ c. head c (u c)) (λ c e. ap (head c) (agree c e)) in
         let g = same_dropped latch (λ c. end_state (flow (held c) body (head c (t c)))) (λ c. end_state (flow (held c) body (head c (u c)))) (λ c e. ap (λ s. end_state (flow (held c) body (head c s))) (agree c e)) in
         λ i. loop p (f i) (g i)

@@ -4,7 +4,7 @@ use Rattle.std.proofs.lemmas.Bool.{eq-eqb, ne_eqb, cases_eq}
 use Rattle.std.specs.Prelude.{not}
 use Rattle.struct_ir.specs.Nodes.{Node, plain, if_, loop, break_, next_, ret, Nodes}
 use Rattle.pin_flow.specs.declared.mark.Mark.TheVariants as kinds
-use Rattle.pin_flow.specs.Marks.{State, unreached, join, after, Ways, at, either, in_turn, head_of, flow}
+use Rattle.pin_flow.specs.Marks.{AllPaths, unreached, join, after, Ways, at, either, in_turn, head_of, flow}
 use Rattle.pin_flow.specs.Held.{held}
 use Rattle.pin_flow.specs.Views.{act_is}
 use Rattle.pin_flow.specs.Looks.{some_in}
@@ -37,7 +37,7 @@ pub turn_by : (r a b : AllWays ℕ) → ((i : ℕ) → ways_at i r ≡ in_turn (
 turn_by r a b h None = refl
 turn_by r a b h (Some i) = h i
 
-pub goes_by : (r a : AllWays ℕ) (f : State → Ways) → f unreached ≡ at unreached → ((i : ℕ) → ways_at i r ≡ in_turn (ways_at i a) (f (state_at i a.on))) → (o : Option ℕ) → ways_by o r ≡ in_turn (ways_by o a) (f (state_by o a.on))
+pub goes_by : (r a : AllWays ℕ) (f : AllPaths → Ways) → f unreached ≡ at unreached → ((i : ℕ) → ways_at i r ≡ in_turn (ways_at i a) (f (state_at i a.on))) → (o : Option ℕ) → ways_by o r ≡ in_turn (ways_by o a) (f (state_by o a.on))
 goes_by r a f e h None = sym (ap (in_turn (at unreached)) e)
 goes_by r a f e h (Some i) = h i
 

@@ -4,7 +4,7 @@ use Rattle.std.proofs.lemmas.Bool.{or_parts, or_from, or_right, and_parts, and_f
 use Rattle.std.specs.Prelude.{not}
 use Rattle.struct_ir.specs.Nodes.{Act, set, call, step, look, safepoint, begin_object, end_object, plain, if_, loop, break_, next_, ret, Nodes, no_nodes, more_nodes}
 use Rattle.struct_ir.specs.Erased.{put}
-use Rattle.pin_flow.specs.Marks.{State, after, head_of, end_state, flow, flow_node}
+use Rattle.pin_flow.specs.Marks.{AllPaths, after, head_of, end_state, flow, flow_node}
 use Rattle.pin_flow.specs.Looks.{act_looks, act_assigns, some_act, loop_assigns, loops_assign, loop_in_assigns}
 use Rattle.pin_flow.specs.Held.{held}
 use Rattle.hoist_pass.specs.inner.Hoist.{needs, dropped, dropped_in, wants, lifted}
@@ -24,7 +24,7 @@ look_assigns_none b c (begin_object i) e = absurd cc
 look_assigns_none b c (end_object i) e = absurd cc
 
 module _ (slot b : ℕ) where
-  abbrev ends : Nodes → State → Nodes
+  abbrev ends : Nodes → AllPaths → Nodes
   ends ns t = dropped b (lifted slot b ns) t
 
   pub assigns_lifted : (ns : Nodes) → some_act (act_assigns b) (lifted slot b ns) ≡ some_act (act_assigns b) ns
@@ -32,7 +32,7 @@ module _ (slot b : ℕ) where
       sym (some_sifted (no_look_of b) (act_assigns b) (look_assigns_none b b) (lifted slot b ns))
       ∙ (ap (some_act (act_assigns b)) (strip_lifted b slot ns) ∙ some_sifted (no_look_of b) (act_assigns b) (look_assigns_none b b) ns)
 
-  assigns_ends : (ns : Nodes) (t : State) → some_act (act_assigns b) (ends ns t) ≡ some_act (act_assigns b) ns
+  assigns_ends : (ns : Nodes) (t : AllPaths) → some_act (act_assigns b) (ends ns t) ≡ some_act (act_assigns b) ns
   assigns_ends ns t =
       sym (some_sifted (no_look_of b) (act_assigns b) (look_assigns_none b b) (ends ns t))
       ∙ (ap (some_act (act_assigns b)) (strip_dropped b (lifted slot b ns) t) ∙ (some_sifted (no_look_of b) (act_assigns b) (look_assigns_none b b) (lifted slot b ns) ∙ assigns_lifted ns))
@@ -41,7 +41,7 @@ module _ (slot b : ℕ) where
   no_looks x y e = rw e refl
 
   -- a loop before which a Look stands, or would, if it were needed
-  quiet_loop : (p : ℕ) (body latch : Nodes) (t : State) → rank t ≤ 1 → wants b (loop p body latch) ≡ true
+  quiet_loop : (p : ℕ) (body latch : Nodes) (t : AllPaths) → rank t ≤ 1 → wants b (loop p body latch) ≡ true
       → loop_in_assigns b (dropped_in b (loop p (lifted slot b body) (lifted slot b latch)) t) ≡ true
   quiet_loop p body latch t le e =
       let w = and_parts (some_act (act_looks b) body || some_act (act_looks b) latch) (not (some_act (act_assigns b) body || some_act (act_assigns b) latch)) e in
@@ -60,7 +60,7 @@ module _ (slot b : ℕ) where
       and_from _ _ so (and_from _ _ (loops_bare b (dropped b lb hd) nb) (loops_bare b (dropped b lt z) nt))
 
   -- any other loop
-  other_loop : (p : ℕ) (body latch : Nodes) (t : State) → wants b (loop p body latch) ≡ false → ((t : State) → loops_assign b (ends body t) ≡ true) → ((t : State) → loops_assign b (ends latch t) ≡ true)
+  other_loop : (p : ℕ) (body latch : Nodes) (t : AllPaths) → wants b (loop p body latch) ≡ false → ((t : AllPaths) → loops_assign b (ends body t) ≡ true) → ((t : AllPaths) → loops_assign b (ends latch t) ≡ true)
       → loop_in_assigns b (dropped_in b (loop p (lifted slot b body) (lifted slot b latch)) t) ≡ true
   other_loop p body latch t e of_body of_turn =
       let h = head_of (flow (held b) (lifted slot b body)) (flow (held b) (lifted slot b latch)) t in
@@ -81,7 +81,7 @@ module _ (slot b : ℕ) where
   mutual
     unfolding flow
 
-    pub loops_done : (ns : Nodes) (t : State) → loops_assign b (ends ns t) ≡ true
+    pub loops_done : (ns : Nodes) (t : AllPaths) → loops_assign b (ends ns t) ≡ true
     loops_done no_nodes t = refl
     loops_done (more_nodes (plain p a) rest) t =
         by_bool (λ x. loops_assign b (put x (plain p a) (ends rest (flow_node (held b) (plain p a) t).on)) ≡ true) (needs b (plain p a) t) (λ e. loops_done rest _) (λ e. loops_done rest _)

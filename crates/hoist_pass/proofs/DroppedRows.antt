@@ -7,7 +7,7 @@ use Rattle.struct_ir.specs.Erased.{put}
 use Rattle.struct_ir.specs.Structured.{row_size, node_size}
 use Rattle.struct_ir.specs.Views.{node_view, nodes_view, followed}
 use Rattle.struct_ir.proofs.Views.{followed_none}
-use Rattle.pin_flow.specs.Marks.{Mark, State, Ways, at, in_turn, end_state, head_of, flow, flow_node}
+use Rattle.pin_flow.specs.Marks.{Mark, AllPaths, Ways, at, in_turn, end_state, head_of, flow, flow_node}
 use Rattle.pin_flow.specs.Held.{held}
 use Rattle.pin_flow.proofs.FlowRows.{row_on, row_over}
 use Rattle.mark_sets.specs.declared.marks.Marks.{Marks}
@@ -19,7 +19,7 @@ use Rattle.hoist_pass.specs.inner.Sets.{has_bit, states, is_leaf}
 -- ---- where control leaves a row
 
 -- at its start
-pub ways_begun : (m : Mark) (rows : Nodes) (a : Ways) (s : State) → a ≡ at s → in_turn a (flow m rows a.on) ≡ flow m rows s
+pub ways_begun : (m : Mark) (rows : Nodes) (a : Ways) (s : AllPaths) → a ≡ at s → in_turn a (flow m rows a.on) ≡ flow m rows s
 ways_begun m rows a s e = ap (λ (w : Ways). in_turn w (flow m rows w.on)) e
 
 -- a node more
@@ -96,7 +96,7 @@ no_loops (break_ p) e = refl
 no_loops (next_ p) e = refl
 no_loops (ret p x) e = refl
 
-pub leaf_made : (those : ℕ → Bool) (n : Node) (t : ℕ → State) → is_leaf n ≡ true → n ≡ dropped_all_in those n t
+pub leaf_made : (those : ℕ → Bool) (n : Node) (t : ℕ → AllPaths) → is_leaf n ≡ true → n ≡ dropped_all_in those n t
 leaf_made those (plain p a) t e = refl
 leaf_made those (if_ p x one other) t e = absurd (let h : false ≡ true = e in cc)
 leaf_made those (loop p body latch) t e = absurd (let h : false ≡ true = e in cc)

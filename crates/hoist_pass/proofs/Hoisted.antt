@@ -4,7 +4,7 @@ use Rattle.std.proofs.lemmas.Bool.{eqb-true, eq-eqb, ne_eqb, cases_eq, not-false
 use Rattle.std.specs.Prelude.{not}
 use Rattle.struct_ir.specs.Nodes.{Act, set, call, step, look, safepoint, begin_object, end_object, Nodes}
 use Rattle.struct_ir.specs.Erased.{erased, is_kept}
-use Rattle.pin_flow.specs.Marks.{State, bad, Each}
+use Rattle.pin_flow.specs.Marks.{AllPaths, bad, Each}
 use Rattle.pin_flow.specs.Looks.{act_looks, some_act, loops_assign}
 use Rattle.pin_flow.specs.Held.{held, fresh, IsDue}
 use Rattle.pin_flow.specs.Slots.{own, IsOwn, IsIn}
@@ -20,10 +20,10 @@ use Rattle.hoist_pass.proofs.Quiet.{loops_bare, still_none, lifts_still}
 use Rattle.hoist_pass.proofs.Same.{no_look_of, strip_one}
 use Rattle.hoist_pass.proofs.Done.{look_assigns_none, loops_done}
 
-look_serves : (slot b s base : ℕ) (t : State) → Serves slot b (look s base) t
+look_serves : (slot b s base : ℕ) (t : AllPaths) → Serves slot b (look s base) t
 look_serves slot b s base t i = absurd i.1
 
-stripped_serves : (slot c b : ℕ) (a : Act) → no_look_of b a ≡ false → (t : State) → Serves slot c a t
+stripped_serves : (slot c b : ℕ) (a : Act) → no_look_of b a ≡ false → (t : AllPaths) → Serves slot c a t
 stripped_serves slot c b (set to calc) e t = absurd cc
 stripped_serves slot c b (call x) e t = absurd cc
 stripped_serves slot c b (step x) e t = absurd cc
@@ -61,7 +61,7 @@ module _ (b c : ℕ) (other : b ≡ c → ⊥) where
         sym (loops_sifted (no_look_of b) c other_looks (look_assigns_none b c) (hoisted_one slot b ns))
         ∙ (ap (loops_assign c) (strip_one b slot ns) ∙ loops_sifted (no_look_of b) c other_looks (look_assigns_none b c) ns)
 
-    other_each : (Q : Act → State → Type 0) → ((a : Act) → no_look_of b a ≡ false → (t : State) → Q a t) → Each Q (held c) ns bad → Each Q (held c) (hoisted_one slot b ns) bad
+    other_each : (Q : Act → AllPaths → Type 0) → ((a : Act) → no_look_of b a ≡ false → (t : AllPaths) → Q a t) → Each Q (held c) ns bad → Each Q (held c) (hoisted_one slot b ns) bad
     other_each Q known e =
         each_back (no_look_of b) (held c) other_idle Q known (hoisted_one slot b ns) bad
         (subst (λ (x : Nodes). Each Q (held c) x bad) (sym (strip_one b slot ns)) (each_sifted (no_look_of b) (held c) other_idle Q ns bad e))
@@ -73,13 +73,13 @@ record Good (c : ℕ) (ns : Nodes) : Type 0 where
   loops : loops_assign c ns ≡ true
 
 module _ (slot b : ℕ) (ns : Nodes) where
-  own_turn : (Q : Act → State → Type 0) → ((a : Act) (t u : State) → rank t ≤ rank u → Q a u → Q a t) → ((t : State) → Q (look slot b) t) → Each Q (held b) ns bad
+  own_turn : (Q : Act → AllPaths → Type 0) → ((a : Act) (t u : AllPaths) → rank t ≤ rank u → Q a u → Q a t) → ((t : AllPaths) → Q (look slot b) t) → Each Q (held b) ns bad
       → Each (Left b Q) (held b) (hoisted_one slot b ns) bad
   own_turn Q down known e = each_dropped b Q (lifted slot b ns) bad (each_lifted slot b Q down known ns bad bad (omega arith) e)
 
   turn_good : Good b (hoisted_one slot b ns)
   turn_good = record {
-    due = let all : Act → State → Type 0 = λ a t. Unit {0} in
+    due = let all : Act → AllPaths → Type 0 = λ a t. Unit {0} in
         each_weaker (held b) (Left b all) (IsDue b) no_act (λ a t e q. q.1) (hoisted_one slot b ns) (no_acts (hoisted_one slot b ns)) bad
         (own_turn all (λ a t u le q. tt) (λ t. tt) (each_always (held b) all (λ a t. tt) ns bad));
     loops = loops_done slot b ns bad;
@@ -163,7 +163,7 @@ all_looks slot_of bs ns listed c e = elim (in_or bs c) [
 -- without Looks of c nothing is due
 bare_good : (c : ℕ) (ns : Nodes) → some_act (act_looks c) ns ≡ false → Good c ns
 bare_good c ns e =
-    let all : Act → State → Type 0 = λ a t. Unit {0} in
+    let all : Act → AllPaths → Type 0 = λ a t. Unit {0} in
     record {
       due = each_weaker (held c) all (IsDue c) (act_looks c) (λ a t e q x. absurd (both_ways (act_looks c a) e x)) ns e bad (each_always (held c) all (λ a t. tt) ns bad);
       loops = loops_bare c ns e;

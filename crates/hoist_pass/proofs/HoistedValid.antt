@@ -5,7 +5,7 @@ use Rattle.std.specs.Prelude.{nat_lt}
 use Rattle.struct_ir.specs.Nodes.{look, Node, plain, if_, loop, break_, next_, ret, Nodes, no_nodes, more_nodes, node_place}
 use Rattle.struct_ir.specs.Erased.{put}
 use Rattle.struct_ir.specs.Valid.{Scope, Around, body_of, latch_of, is_node, are_nodes}
-use Rattle.pin_flow.specs.Marks.{State, bad, flow_node}
+use Rattle.pin_flow.specs.Marks.{AllPaths, bad, flow_node}
 use Rattle.pin_flow.specs.Held.{held}
 use Rattle.pin_flow.specs.Slots.{slot_in, IsIn}
 use Rattle.pin_flow.proofs.Bases.{slots_are_few}
@@ -39,7 +39,7 @@ module _ (x : Scope) (slot b : ℕ) (slot_fits : nat_lt slot x.slots ≡ true) (
 
 module _ (x : Scope) (b : ℕ) where
   mutual
-    pub dropped_valid : (w : Around) (ns : Nodes) (t : State) → are_nodes x w ns ≡ true → are_nodes x w (dropped b ns t) ≡ true
+    pub dropped_valid : (w : Around) (ns : Nodes) (t : AllPaths) → are_nodes x w ns ≡ true → are_nodes x w (dropped b ns t) ≡ true
     dropped_valid w no_nodes t e = refl
     dropped_valid w (more_nodes n rest) t e =
         let q = and_parts (is_node x w n) (are_nodes x w rest) e in
@@ -47,7 +47,7 @@ module _ (x : Scope) (b : ℕ) where
         let r = dropped_valid w rest u q.1 in
         by_bool (λ k. are_nodes x w (put k (dropped_in b n t) (dropped b rest u)) ≡ true) (needs b n t) (λ g. and_from _ _ (dropped_in_valid w n t q.0) r) (λ g. r)
 
-    dropped_in_valid : (w : Around) (n : Node) (t : State) → is_node x w n ≡ true → is_node x w (dropped_in b n t) ≡ true
+    dropped_in_valid : (w : Around) (n : Node) (t : AllPaths) → is_node x w n ≡ true → is_node x w (dropped_in b n t) ≡ true
     dropped_in_valid w (plain p a) t e = e
     dropped_in_valid w (if_ p y one other) t e =
         let r = and_parts (nat_lt y x.temps) (are_nodes x w one && are_nodes x w other) e in

@@ -4,7 +4,7 @@ use Rattle.std.proofs.lemmas.Bool.{or_parts, or_from, and_from}
 use Rattle.std.specs.Prelude.{not}
 use Rattle.struct_ir.specs.Nodes.{Act, look, Node, plain, if_, loop, break_, next_, ret, Nodes, no_nodes, more_nodes, node_place}
 use Rattle.struct_ir.specs.Erased.{put}
-use Rattle.pin_flow.specs.Marks.{Mark, State, unreached, good, bad, join, state_of, after, at, Ways, round_of, head_of, end_state, flow, flow_node}
+use Rattle.pin_flow.specs.Marks.{Mark, AllPaths, unreached, good, bad, join, state_of, after, at, Ways, round_of, head_of, end_state, flow, flow_node}
 use Rattle.pin_flow.specs.Looks.{act_looks, act_assigns, some_act, some_in, loop_assigns, loops_assign, loop_in_assigns}
 use Rattle.pin_flow.specs.Held.{held}
 use Rattle.hoist_pass.specs.inner.Hoist.{is_bad, needs, dropped, dropped_in, wants, lifted, lifted_in}
@@ -17,20 +17,20 @@ pub record Calm (o : Ways) : Type 0 where
   pub broken : rank o.broken ≤ 1
   pub next : rank o.next ≤ 1
 
-pub join_calm : (t u : State) → rank t ≤ 1 → rank u ≤ 1 → rank (join t u) ≤ 1
+pub join_calm : (t u : AllPaths) → rank t ≤ 1 → rank u ≤ 1 → rank (join t u) ≤ 1
 join_calm t u h g = omega (arith, rank_join t u)
 
-at_calm : (t : State) → rank t ≤ 1 → Calm (at t)
+at_calm : (t : AllPaths) → rank t ≤ 1 → Calm (at t)
 at_calm t h = record { on = h; broken = omega arith; next = omega arith }
 
-round_calm : (f g : State → Ways) → ((t : State) → rank t ≤ 1 → Calm (f t)) → ((t : State) → rank t ≤ 1 → Calm (g t)) → (t : State) → rank t ≤ 1 → Calm (round_of f g t)
+round_calm : (f g : AllPaths → Ways) → ((t : AllPaths) → rank t ≤ 1 → Calm (f t)) → ((t : AllPaths) → rank t ≤ 1 → Calm (g t)) → (t : AllPaths) → rank t ≤ 1 → Calm (round_of f g t)
 unfolding round_of
 round_calm f g cf cg t h =
     let a = cf t h in
     let b = cg (end_state (f t)) (join_calm _ _ a.on a.next) in
     record { on = join_calm _ _ b.on b.next; broken = join_calm _ _ a.broken b.broken; next = omega arith }
 
-pub head_calm : (f g : State → Ways) → ((t : State) → rank t ≤ 1 → Calm (f t)) → ((t : State) → rank t ≤ 1 → Calm (g t)) → (t : State) → rank t ≤ 1 → rank (head_of f g t) ≤ 1
+pub head_calm : (f g : AllPaths → Ways) → ((t : AllPaths) → rank t ≤ 1 → Calm (f t)) → ((t : AllPaths) → rank t ≤ 1 → Calm (g t)) → (t : AllPaths) → rank t ≤ 1 → rank (head_of f g t) ≤ 1
 unfolding head_of
 head_calm f g cf cg t h = join_calm _ _ h ((round_calm f g cf cg t h).on)
 
@@ -38,7 +38,7 @@ module _ (b : ℕ) where
   abbrev m : Mark
   m = held b
 
-  held_calm : (a : Act) → act_assigns b a ≡ false → (t : State) → rank t ≤ 1 → rank (after (m a) t) ≤ 1
+  held_calm : (a : Act) → act_assigns b a ≡ false → (t : AllPaths) → rank t ≤ 1 → rank (after (m a) t) ≤ 1
   held_calm a e unreached h = omega arith
   held_calm a e good h = by_bool (λ x. rank (state_of (x || (not (act_assigns b a) && true))) ≤ 1) (act_looks b a) (λ g. omega arith) (λ g. rw e (omega arith))
   held_calm a e bad h = absurd (omega arith)
@@ -46,7 +46,7 @@ module _ (b : ℕ) where
   mutual
     unfolding flow
 
-    pub calm : (ns : Nodes) → some_act (act_assigns b) ns ≡ false → (t : State) → rank t ≤ 1 → Calm (flow m ns t)
+    pub calm : (ns : Nodes) → some_act (act_assigns b) ns ≡ false → (t : AllPaths) → rank t ≤ 1 → Calm (flow m ns t)
     calm no_nodes e t h = at_calm t h
     calm (more_nodes n rest) e t h =
         let p = or_parts (some_in (act_assigns b) n) (some_act (act_assigns b) rest) e in
@@ -54,7 +54,7 @@ module _ (b : ℕ) where
         let y = calm rest p.1 _ x.on in
         record { on = y.on; broken = join_calm _ _ x.broken y.broken; next = join_calm _ _ x.next y.next }
 
-    node_calm : (n : Node) → some_in (act_assigns b) n ≡ false → (t : State) → rank t ≤ 1 → Calm (flow_node m n t)
+    node_calm : (n : Node) → some_in (act_assigns b) n ≡ false → (t : AllPaths) → rank t ≤ 1 → Calm (flow_node m n t)
     node_calm (plain p a) e t h = at_calm _ (held_calm a e t h)
     node_calm (if_ p x one other) e t h =
         let q = or_parts (some_act (act_assigns b) one) (some_act (act_assigns b) other) e in
@@ -68,7 +68,7 @@ module _ (b : ℕ) where
     node_calm (next_ p) e t h = record { on = omega arith; broken = omega arith; next = h }
     node_calm (ret p x) e t h = at_calm _ (omega arith)
 
-  calm_not_bad : (t : State) → rank t ≤ 1 → is_bad t ≡ false
+  calm_not_bad : (t : AllPaths) → rank t ≤ 1 → is_bad t ≡ false
   calm_not_bad unreached h = refl
   calm_not_bad good h = refl
   calm_not_bad bad h = absurd (omega arith)
@@ -80,7 +80,7 @@ module _ (b : ℕ) where
   mutual
     unfolding flow
 
-    pub none_left : (ns : Nodes) → some_act (act_assigns b) ns ≡ false → (t : State) → rank t ≤ 1 → some_act (act_looks b) (dropped b ns t) ≡ false
+    pub none_left : (ns : Nodes) → some_act (act_assigns b) ns ≡ false → (t : AllPaths) → rank t ≤ 1 → some_act (act_looks b) (dropped b ns t) ≡ false
     none_left no_nodes e t h = refl
     none_left (more_nodes (plain p a) rest) e t h =
         let q = or_parts (act_assigns b a) (some_act (act_assigns b) rest) e in
@@ -100,7 +100,7 @@ module _ (b : ℕ) where
     none_left (more_nodes (next_ p) rest) e t h = none_left rest e unreached (omega arith)
     none_left (more_nodes (ret p x) rest) e t h = none_left rest e unreached (omega arith)
 
-    none_in : (n : Node) → some_in (act_assigns b) n ≡ false → (t : State) → rank t ≤ 1 → needs b n t ≡ true → some_in (act_looks b) (dropped_in b n t) ≡ false
+    none_in : (n : Node) → some_in (act_assigns b) n ≡ false → (t : AllPaths) → rank t ≤ 1 → needs b n t ≡ true → some_in (act_looks b) (dropped_in b n t) ≡ false
     none_in (plain p a) e t h g = look_needed (act_looks b a) (is_bad t) (calm_not_bad t h) g
     none_in (if_ p x one other) e t h g =
         let q = or_parts (some_act (act_assigns b) one) (some_act (act_assigns b) other) e in
@@ -137,7 +137,7 @@ module _ (b : ℕ) where
 
   -- what no act is, none is after Looks are dropped
   mutual
-    pub still_none : (f : Act → Bool) (ns : Nodes) (t : State) → some_act f ns ≡ false → some_act f (dropped b ns t) ≡ false
+    pub still_none : (f : Act → Bool) (ns : Nodes) (t : AllPaths) → some_act f ns ≡ false → some_act f (dropped b ns t) ≡ false
     still_none f no_nodes t e = refl
     still_none f (more_nodes (plain p a) rest) t e =
         let q = or_parts (f a) (some_act f rest) e in

@@ -3,7 +3,7 @@ use Rattle.std.proofs.Common.{◌≡◌, ℕ, Bool, true, false, ◌||◌, refl,
 use Rattle.std.specs.Prelude.{not}
 use Rattle.struct_ir.specs.Nodes.{Act, look, plain, if_, loop, break_, next_, ret, Nodes, no_nodes, more_nodes}
 use Rattle.struct_ir.specs.Erased.{put}
-use Rattle.pin_flow.specs.Marks.{State, bad, flow_node, end_state, head_of, flow}
+use Rattle.pin_flow.specs.Marks.{AllPaths, bad, flow_node, end_state, head_of, flow}
 use Rattle.pin_flow.specs.Looks.{act_looks}
 use Rattle.pin_flow.specs.Held.{held}
 use Rattle.hoist_pass.specs.inner.Hoist.{is_bad, needs, dropped, wants, lifted, hoisted_one}
@@ -21,7 +21,7 @@ module _ (b : ℕ) where
   drops_look true y e = refl
   drops_look false y e = absurd cc
 
-  pub strip_dropped : (ns : Nodes) (t : State) → strip (dropped b ns t) ≡ strip ns
+  pub strip_dropped : (ns : Nodes) (t : AllPaths) → strip (dropped b ns t) ≡ strip ns
   strip_dropped no_nodes t = refl
   strip_dropped (more_nodes (plain p a) rest) t =
       by_bool (λ x. strip (put x (plain p a) (dropped b rest (flow_node (held b) (plain p a) t).on)) ≡ put (no_look_of b a) (plain p a) (strip rest)) (needs b (plain p a) t)

@@ -127,7 +127,7 @@ fn becomes(
     to: IntType,
     t: u32,
 ) -> Result<(), NoMemory>
-    ensures { OnOk result ((rest : Nodes) → followed out.new.items rest ≡ followed out.old.items (forms.becomes place from to t rest)) }
+    ensures { OnOk result ((rest : Nodes) → followed out.new.items rest ≡ followed out.old.items (forms.converts_number place from to t rest)) }
 {
     if same_type(from, to) {
         return Ok(());

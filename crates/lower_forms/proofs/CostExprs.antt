@@ -5,7 +5,7 @@ use Rattle.c_tree.specs.Typed as tree
 use Rattle.c_meaning.specs.Values.{is_scalar}
 use Rattle.struct_ir.specs.Nodes.{Act, Nodes, no_nodes, more_nodes, plain}
 use Rattle.struct_ir.specs.meaning.Blocks.{same_type}
-use Rattle.lower_forms.specs.Forms.{Frame, home, branches, is_void, local_value, local_place, number_type, becomes, converts, lib_nodes, expr_nodes, value_nodes, place_nodes, object_place, args_nodes, dropped_nodes, dropped_value}
+use Rattle.lower_forms.specs.Forms.{Frame, home, branches, is_void, local_value, local_place, number_type, converts_number, converts, lib_nodes, expr_nodes, value_nodes, place_nodes, object_place, args_nodes, dropped_nodes, dropped_value}
 use Rattle.lower_forms.specs.Sizes.{nodes_in, expr_size, expr_parts, args_size}
 
 -- the first row is the second with at most so many nodes before it
@@ -31,7 +31,7 @@ pub cost_either : (b : Bool) (x y : Nodes) (a : ℕ) (q : Nodes) → AtMost x a 
 cost_either true x y a q h k = h
 cost_either false x y a q h k = k
 
-pub cost_becomes : (place : ℕ) (s u : IntType) (t : ℕ) (rest : Nodes) → AtMost (becomes place s u t rest) 1 rest
+pub cost_becomes : (place : ℕ) (s u : IntType) (t : ℕ) (rest : Nodes) → AtMost (converts_number place s u t rest) 1 rest
 cost_becomes place s u t rest = cost_either (same_type s u) _ _ _ _ (cost_weak _ _ _ _ (cost_same rest) (omega arith)) (cost_one _ _ _)
 
 module _ (f : Frame) where

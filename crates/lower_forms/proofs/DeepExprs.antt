@@ -6,7 +6,7 @@ use Rattle.c_tree.specs.Typed as tree
 use Rattle.c_meaning.specs.Values.{is_scalar}
 use Rattle.struct_ir.specs.Nodes.{Act, Nodes, no_nodes, more_nodes, plain}
 use Rattle.struct_ir.specs.meaning.Blocks.{same_type}
-use Rattle.lower_forms.specs.Forms.{Frame, home, branches, is_void, local_value, local_place, number_type, becomes, converts, lib_nodes, expr_nodes, value_nodes, place_nodes, object_place, args_nodes, dropped_nodes, dropped_value}
+use Rattle.lower_forms.specs.Forms.{Frame, home, branches, is_void, local_value, local_place, number_type, converts_number, converts, lib_nodes, expr_nodes, value_nodes, place_nodes, object_place, args_nodes, dropped_nodes, dropped_value}
 use Rattle.lower_forms.specs.Sizes.{nested_in, expr_depth, depth_inside, args_depth}
 
 -- the first row is the second with nodes before it that are nested at most so deep
@@ -32,7 +32,7 @@ pub deep_either : (b : Bool) (x y : Nodes) (a : ℕ) (q : Nodes) → NoDeeper x 
 deep_either true x y a q h k = h
 deep_either false x y a q h k = k
 
-pub deep_becomes : (place : ℕ) (s u : IntType) (t : ℕ) (rest : Nodes) → NoDeeper (becomes place s u t rest) 1 rest
+pub deep_becomes : (place : ℕ) (s u : IntType) (t : ℕ) (rest : Nodes) → NoDeeper (converts_number place s u t rest) 1 rest
 deep_becomes place s u t rest = deep_either (same_type s u) _ _ _ _ (deep_weak _ _ _ _ (deep_same rest) (omega arith)) (deep_one _ _ _)
 
 module _ (f : Frame) where

@@ -13,7 +13,7 @@ use Rattle.struct_ir.specs.Lists.{bare_place, bare_step}
 use Rattle.struct_ir.specs.Erased.{erased}
 use Rattle.struct_ir.specs.meaning.Blocks.{same_type}
 use Rattle.struct_ir.specs.Valid.{Scope, Around, body_of, latch_of, is_below_if, is_promoted, is_calc, is_place, is_step, are_nodes}
-use Rattle.lower_forms.specs.Forms.{sets, acts, branches, sets_int, sets_long, sets_truth, Reach, found, direct, indexed, at_temp, reached, member_reach, loads, object_nodes, member_nodes, becomes, ends}
+use Rattle.lower_forms.specs.Forms.{sets, acts, branches, sets_int, sets_long, sets_truth, Reach, found, direct, indexed, at_temp, reached, member_reach, loads, object_nodes, member_nodes, converts_number, ends}
 
 -- a row is valid there, and has no Look, safepoint, slot or list
 pub record Good (x : Scope) (a : Around) (n : Nodes) : Type 0 where
@@ -42,7 +42,7 @@ module _ (x : Scope) where
     bare = ap (more_nodes (plain place (set to c))) g.bare;
   }
 
-  pub good_becomes : (a : Around) (place : ℕ) (u v : IntType) (t : ℕ) (rest : Nodes) → Below t → Good x a rest → Good x a (becomes place u v t rest)
+  pub good_becomes : (a : Around) (place : ℕ) (u v : IntType) (t : ℕ) (rest : Nodes) → Below t → Good x a rest → Good x a (converts_number place u v t rest)
   good_becomes a place u v t rest h g = by_type (same_type u v)
     where
       by_type : (same : Bool) → Good x a (if same then rest else sets place t (ir.convert v t) rest)

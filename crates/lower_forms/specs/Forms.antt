@@ -210,12 +210,12 @@ number_type (tree.atomic t) = t
 number_type ty = int
 
 -- the number in the register t becomes one of another type; nothing is done where that is its own (C11 6.3.1.3)
-abbrev pub becomes : (place : ℕ) → (from to : IntType) → (t : ℕ) → Nodes → Nodes
-becomes place from to t rest = if same_type from to then rest else sets place t (ir.convert to t) rest
+abbrev pub converts_number : (place : ℕ) → (from to : IntType) → (t : ℕ) → Nodes → Nodes
+converts_number place from to t rest = if same_type from to then rest else sets place t (ir.convert to t) rest
 
 -- a conversion from one type to another: of a pointer it is nothing (C11 6.3)
 abbrev pub converts : (place : ℕ) → (from to : tree.Ty) → (t : ℕ) → Nodes → Nodes
-converts place from (tree.integer s) t rest = becomes place (number_type from) s t rest
+converts place from (tree.integer s) t rest = converts_number place (number_type from) s t rest
 converts place from to t rest = rest
 
 -- the sum of a pointer and a number of elements, of which the first stands in t and the other in u
@@ -546,7 +546,7 @@ moves op p n scale = ir.pointer_add p n scale
 -- (C11 6.5.16.2)
 abbrev pub number_update : (place : ℕ) → Op → (a b : IntType) → IntType × IntType → (x y to : ℕ) → Nodes → Nodes
 number_update place op a b types x y to rest =
-    becomes place a types.0 x (becomes place b types.1 y (sets place to (ir.apply op types.0 x y) (becomes place types.0 a to rest)))
+    converts_number place a types.0 x (converts_number place b types.1 y (sets place to (ir.apply op types.0 x y) (converts_number place types.0 a to rest)))
 
 -- by the type of a, which is a number or a pointer
 abbrev pub computes : List tree.Layout → (place : ℕ) → Op → (a b : tree.Ty) → (x y to : ℕ) → Nodes → Nodes

@@ -35,7 +35,7 @@ use Rattle.struct_ir.specs.Structured.{Position, then_}
 use Rattle.struct_ir.specs.meaning.Blocks.{Held, value, number, pointer, broken, Own, set_at, known, on_value, on_number, or_broken, calculated, start_of, same_type, takes, if_taken}
 use Rattle.struct_ir.specs.meaning.Threads.{action_of, set_if}
 use Rattle.lower_forms.specs.Forms as forms
-use Rattle.lower_forms.specs.Forms.{home, sets, Reach, found, reached, behind, at_temp, moves, becomes, number_update, computes, sized_copy}
+use Rattle.lower_forms.specs.Forms.{home, sets, Reach, found, reached, behind, at_temp, moves, converts_number, number_update, computes, sized_copy}
 use Rattle.lower_forms.specs.Programs.{lowered}
 use Rattle.lower_turns.proofs.Relation.{HasKind, Below, Reaches, Points, InRegister, no_value, one_value, held_in, forwards, backwards, at_local, at_nowhere, at_place, at_block, at_struct_right, at_update_read, at_update_local, Together, both_went, both_broke, same, at_begins}
 use Rattle.lower_turns.proofs.Registers.{set_here, set_there, below_same, below_less, below_then, below_set, reaches_below}
@@ -68,7 +68,7 @@ module _ (g : Setting) (ob : ℕ → Option ℕ) (b : Blocks) (go : Value → Tu
   -- a number of a type goes on as one of another, whether it is converted or is of that type already
   becomes_alike : (out : Turn Control) (k : ℕ) (from s : IntType) (n : Num) (rest : Nodes) (a : ℕ → Held) → n.ty ≡ from → a k ≡ number n
       → ((c : ℕ → Held) → ((i : ℕ) → i ≢ k → c i ≡ a i) → c k ≡ number (num s n.value) → Alike g out (then_ rest q) (own g ob c b))
-      → Alike g out (then_ (becomes place from s k rest) q) (own g ob a b)
+      → Alike g out (then_ (converts_number place from s k rest) q) (own g ob a b)
   becomes_alike out k from s n rest a of e leads = by_type (same_type from s) refl
     where
       by_type : (same : Bool) → same_type from s ≡ same → Alike g out (then_ (if same then rest else sets place k (ir.convert s k) rest) q) (own g ob a b)
@@ -81,13 +81,13 @@ module _ (g : Setting) (ob : ℕ → Option ℕ) (b : Blocks) (go : Value → Tu
   -- the result of an operation on numbers, of the type t0, comes to its register as one of the left side's type
   applied : (res : Result Num Rule) (s t0 : IntType) (op : Op) (a : ℕ → Held) → But x y to tm a → ((m : Num) → res ≡ Ok m → m.ty ≡ t0)
       → calculated program_code place (own g ob a b) (ir.apply op t0 x y) ≡ or_broken place number res → Leads (accesses.Number s)
-      → Alike g (on_ok place go (converted_result (tree.integer s) (value_of res))) (then_ (sets place to (ir.apply op t0 x y) (becomes place t0 s to r)) q) (own g ob a b)
+      → Alike g (on_ok place go (converted_result (tree.integer s) (value_of res))) (then_ (sets place to (ir.apply op t0 x y) (converts_number place t0 s to r)) q) (own g ob a b)
   applied (Ok m) s t0 op a but of e leads =
-      set_then program_code g.thread g.answer g.cs' g.s g.t (go (values.Num (num s m.value))) place to (ir.apply op t0 x y) (becomes place t0 s to r) q (own g ob a b) (number m) e
+      set_then program_code g.thread g.answer g.cs' g.s g.t (go (values.Num (num s m.value))) place to (ir.apply op t0 x y) (converts_number place t0 s to r) q (own g ob a b) (number m) e
       (becomes_alike (go (values.Num (num s m.value))) to t0 s m r (set_at a to (number m)) (of m refl) (set_here a to (number m))
       (λ c keep is. leads (values.Num (num s m.value)) refl c (λ i nx ny nt. keep i nt ∙ set_there a to (number m) i nt ∙ but i nx ny nt) is))
   applied (Err rule) s t0 op a but of e leads =
-      subst (Together g.t (runs.broke rule place)) (sym (set_breaks program_code g.thread g.answer g.cs' g.s place to (ir.apply op t0 x y) (becomes place t0 s to r) q (own g ob a b) (broken rule place) e)) (both_broke rule place)
+      subst (Together g.t (runs.broke rule place)) (sym (set_breaks program_code g.thread g.answer g.cs' g.s place to (ir.apply op t0 x y) (converts_number place t0 s to r) q (own g ob a b) (broken rule place) e)) (both_broke rule place)
 
   apply_is : (t0 : IntType) (op : Op) (a : ℕ → Held) (m n : Num) → takes op t0 m.ty n.ty ≡ true → a x ≡ number m → a y ≡ number n → calculated program_code place (own g ob a b) (ir.apply op t0 x y) ≡ or_broken place number (result_of op m n)
   apply_is t0 op a m n t e d =

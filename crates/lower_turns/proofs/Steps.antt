@@ -87,11 +87,11 @@ module _ (p : Ir) (thread : ℕ) (answer : Answer) (callers : List (Point Positi
 
   pub set_step : (place to : ℕ) (calc : Calc) (r : Nodes) (q : Position) (l : Own) (h : Held) → calculated p place l calc ≡ Ok h
       → onward (then_ (sets place to calc r) q) l ≡ onward (then_ r q) (with_temps l (set_at l.temps to h))
-  set_step place to calc r q l h e = goes_to _ _ l _ (ap (λ (x : Result Held Fault). machine.acted (then_ r q) (assigned l to x)) e)
+  set_step place to calc r q l h e = goes_to _ _ l _ (ap (λ (x : Result Held Fault). machine.after_act (then_ r q) (assigned l to x)) e)
 
   pub set_breaks : (place to : ℕ) (calc : Calc) (r : Nodes) (q : Position) (l : Own) (f : Fault) → calculated p place l calc ≡ Err f
       → onward (then_ (sets place to calc r) q) l ≡ after (Err f)
-  set_breaks place to calc r q l f e = breaks_to _ l f (ap (λ (x : Result Held Fault). machine.acted (then_ r q) (assigned l to x)) e)
+  set_breaks place to calc r q l f e = breaks_to _ l f (ap (λ (x : Result Held Fault). machine.after_act (then_ r q) (assigned l to x)) e)
 
   -- ---- branches
 

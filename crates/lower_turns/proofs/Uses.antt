@@ -28,7 +28,7 @@ use Rattle.struct_ir.specs.meaning.Blocks.{Held, value, number, pointer, truth, 
 use Rattle.struct_ir.specs.meaning.Threads.{address_of, action_of, action_with, set_if, moved_if}
 use Rattle.struct_ir.specs.meaning.Threads as served
 use Rattle.lower_forms.specs.Forms as forms
-use Rattle.lower_forms.specs.Forms.{sets, sets_int, sets_truth, Reach, found, direct, indexed as by_index, reached, behind, member_reach, member_nodes, becomes}
+use Rattle.lower_forms.specs.Forms.{sets, sets_int, sets_truth, Reach, found, direct, indexed as by_index, reached, behind, member_reach, member_nodes, converts_number}
 use Rattle.lower_forms.specs.Programs.{lowered}
 use Rattle.lower_turns.proofs.Relation.{HasKind, Below, Reaches, Points, BinaryFits, forwards, forwards_from, calc_of, Joined, not_joined, joined, ConvertFits, to_number, from_atomic, to_pointer, Calls, at_second, at_convert, at_not, at_test, at_member, at_read, at_second_test, Together, both_went, same, at_gives}
 use Rattle.lower_turns.proofs.Registers.{set_here, set_there, below_less, below_set}
@@ -256,7 +256,7 @@ module _ (g : Setting) (vs : List Variable) (ob : ℕ → Option ℕ) (b : Block
     convert_is place s a n e = ap (λ (x : Held). on_value (known place x) (on_number (λ (m : Num). Ok (number (num s m.value))))) e
 
     number_converted : (place : ℕ) (x y : IntType) (rch : Reach) → GoesE g vs ob b tm w u (accesses.Number y) rch r q → (v : Value) (a : ℕ → Held) → HasKind (accesses.Number x) v → Below u tm a → a u ≡ value v → Points a rch u v
-        → Alike g ((only_way place (meant.converts (tree.integer y)) w).go v (now g vs b)) (then_ (becomes place x y u r) q) (own g ob a b)
+        → Alike g ((only_way place (meant.converts (tree.integer y)) w).go v (now g vs b)) (then_ (converts_number place x y u r) q) (own g ob a b)
     number_converted place x y rch goes (values.Pointer p) a kind below is points = elim kind [ ]
     number_converted place x y rch goes (values.Num n) a kind below is points = by_type (same_type x y) refl
       where

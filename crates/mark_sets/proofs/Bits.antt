@@ -12,7 +12,7 @@ use Rattle.pin_flow.proofs.Marked.{held_at}
 use Rattle.pin_flow.proofs.Strip.{by_bool}
 use Rattle.mark_sets.specs.declared.marks.Marks.{Marks}
 use Rattle.std.specs.Prelude.{Result, Ok, Err, OnOk}
-use Rattle.pin_flow.specs.Marks.{State, state_of, at, after}
+use Rattle.pin_flow.specs.Marks.{AllPaths, state_of, at, after}
 use Rattle.pin_flow.specs.Marks as flows
 use Rattle.pin_flow.specs.Views.{leaf}
 use Rattle.pin_flow.proofs.FlowRows.{is_plain}
@@ -163,7 +163,7 @@ pub changed_state : (f : Bool → Bool) (old new : Bool) → new ≡ not (f (not
 changed_state f old new e = ap (λ x. state_of (not x)) e ∙ (ap state_of (not_not (f (not old))) ∙ after_state f (not old))
 
 -- an act leads on alone
-pub leaf_marked : (m : flows.Mark) (n : Node) → is_plain n ≡ true → (t : State) → at (after (λ (w : Bool). node_marked m n w) t) ≡ leaf m n t
+pub leaf_marked : (m : flows.Mark) (n : Node) → is_plain n ≡ true → (t : AllPaths) → at (after (λ (w : Bool). node_marked m n w) t) ≡ leaf m n t
 leaf_marked m (plain p a) e t = refl
 leaf_marked m (if_ p x one other) e t = absurd (let h : false ≡ true = e in cc)
 leaf_marked m (loop p body latch) e t = absurd (let h : false ≡ true = e in cc)

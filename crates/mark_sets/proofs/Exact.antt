@@ -2,7 +2,7 @@
 use Rattle.std.proofs.Common.{◌≡◌, Bool, true, false, refl, sym, ap, ◌∙◌}
 use Rattle.std.specs.Prelude.{◌||◌, not}
 use Rattle.struct_ir.specs.Nodes.{Node, plain, if_, loop, break_, next_, ret, Nodes, no_nodes, more_nodes}
-use Rattle.pin_flow.specs.Marks.{Mark, State, unreached, good, join, state_of, after, Ways, ways, at, either, in_turn, end_state, turned, round_of, head_of, flow, flow_node}
+use Rattle.pin_flow.specs.Marks.{Mark, AllPaths, unreached, good, join, state_of, after, Ways, ways, at, either, in_turn, end_state, turned, round_of, head_of, flow, flow_node}
 use Rattle.pin_flow.proofs.Order.{flow_idle}
 use Rattle.mark_sets.specs.Sets.{Sets, nowhere, bads, state_at, union, after_all, AllWays, ways_at, either_all, in_turn_all, end_all, turned_all, Both, begins, through, ways_through, round_through, killed_in, killed, with_killed, loop_through, all_flow, all_flow_node, summary}
 
@@ -32,7 +32,7 @@ pub after_at : {I : Type 0} (c : I → Bool → Bool) (i : I) (t : Sets I) → s
 after_at c i nowhere = refl
 after_at c i (bads f) = ap state_of (not_not (c i (not (f i)))) ∙ after_state (c i) (not (f i))
 
-pub ways_same : (a b c a' b' c' : State) → a ≡ a' → b ≡ b' → c ≡ c' → ways a b c ≡ ways a' b' c'
+pub ways_same : (a b c a' b' c' : AllPaths) → a ≡ a' → b ≡ b' → c ≡ c' → ways a b c ≡ ways a' b' c'
 ways_same a b c a' b' c' e f g = rw (e, f, g) refl
 
 pub either_at : {I : Type 0} (i : I) (o p : AllWays I) → ways_at i (either_all o p) ≡ either (ways_at i o) (ways_at i p)
@@ -55,19 +55,19 @@ through_at k nowhere f j = refl
 through_at k (bads g) f j = refl
 
 -- the summary is the flow f of each mark, from a yes and from a no
-abbrev IsFlow : {I : Type 0} → AllWays (Both I) → (I → State → Ways) → Type 0
+abbrev IsFlow : {I : Type 0} → AllWays (Both I) → (I → AllPaths → Ways) → Type 0
 IsFlow {I} s f = (i : I) (v : Bool) → ways_at (i, v) s ≡ f i (state_of v)
 
-abbrev IsIdle : {I : Type 0} → (I → State → Ways) → Type 0
+abbrev IsIdle : {I : Type 0} → (I → AllPaths → Ways) → Type 0
 IsIdle {I} f = (i : I) → f i unreached ≡ at unreached
 
-ways_through_at : {I J : Type 0} (k : J → I) (s : AllWays (Both I)) (f : I → State → Ways) → IsFlow s f → IsIdle f → (t : Sets J) (j : J)
+ways_through_at : {I J : Type 0} (k : J → I) (s : AllWays (Both I)) (f : I → AllPaths → Ways) → IsFlow s f → IsIdle f → (t : Sets J) (j : J)
     → ways_at j (ways_through k s t) ≡ f (k j) (state_at j t)
 ways_through_at k s f is idle nowhere j = sym (idle (k j))
 ways_through_at k s f is idle (bads x) j =
     ways_same _ _ _ _ _ _ (through_at k s.on x j) (through_at k s.broken x j) (through_at k s.next x j) ∙ is (k j) (not (x j))
 
-round_at : {I J : Type 0} (k : J → I) (b l : AllWays (Both I)) (f g : I → State → Ways) → IsFlow b f → IsIdle f → IsFlow l g → IsIdle g → (t : Sets J) (j : J)
+round_at : {I J : Type 0} (k : J → I) (b l : AllWays (Both I)) (f g : I → AllPaths → Ways) → IsFlow b f → IsIdle f → IsFlow l g → IsIdle g → (t : Sets J) (j : J)
     → ways_at j (round_through k b l t) ≡ round_of (f (k j)) (g (k j)) (state_at j t)
 unfolding round_of
 round_at k b l f g isf idf isg idg t j =
@@ -86,11 +86,11 @@ killed_is (bads g) i false = elim (g (i, true)) as (λ x. state_of (not x) ≡ j
   | false ↦ refl
 ]
 
-join_no : (v : Bool) (t u : State) → (v ≡ false → t ≡ u) → join (state_of (not v)) t ≡ join (state_of (not v)) u
+join_no : (v : Bool) (t u : AllPaths) → (v ≡ false → t ≡ u) → join (state_of (not v)) t ≡ join (state_of (not v)) u
 join_no true t u e = refl
 join_no false t u e = ap (join good) (e refl)
 
-head_at : {I J : Type 0} (k : J → I) (b l : AllWays (Both I)) (f g : I → State → Ways) → IsFlow b f → IsIdle f → IsFlow l g → IsIdle g → (t : Sets J) (j : J)
+head_at : {I J : Type 0} (k : J → I) (b l : AllWays (Both I)) (f g : I → AllPaths → Ways) → IsFlow b f → IsIdle f → IsFlow l g → IsIdle g → (t : Sets J) (j : J)
     → state_at j (with_killed k (killed b l) t) ≡ head_of (f (k j)) (g (k j)) (state_at j t)
 unfolding head_of round_of
 head_at k b l f g isf idf isg idg nowhere j = rw (idf (k j), idg (k j)) refl
@@ -99,7 +99,7 @@ head_at {I} k b l f g isf idf isg idg (bads x) j =
     let once : state_at (k j, true) r.on ≡ (round_of (f (k j)) (g (k j)) good).on = ap (λ (o : Ways). o.on) (round_at (λ (p : Both I). p.0) b l f g isf idf isg idg begins (k j, true)) in
     killed_is r.on (k j) (x j) ∙ join_no (x j) _ _ (λ e. once ∙ ap (λ v. (round_of (f (k j)) (g (k j)) (state_of (not v))).on) (sym e))
 
-loop_at : {I J : Type 0} (k : J → I) (b l : AllWays (Both I)) (f g : I → State → Ways) → IsFlow b f → IsIdle f → IsFlow l g → IsIdle g → (t : Sets J) (j : J)
+loop_at : {I J : Type 0} (k : J → I) (b l : AllWays (Both I)) (f g : I → AllPaths → Ways) → IsFlow b f → IsIdle f → IsFlow l g → IsIdle g → (t : Sets J) (j : J)
     → ways_at j (loop_through k b l t) ≡ at (round_of (f (k j)) (g (k j)) (head_of (f (k j)) (g (k j)) (state_at j t))).broken
 loop_at k b l f g isf idf isg idg t j =
     let h = with_killed k (killed b l) t in

@@ -2,7 +2,7 @@
 use Rattle.std.proofs.Common.{◌≡◌, ℕ, Bool, true, List, [], refl, sym, ap, ◌∙◌, subst}
 use Rattle.std.specs.Prelude.{◌↔◌}
 use Rattle.struct_ir.specs.Nodes.{Act, Node, plain, if_, loop, break_, next_, ret, Nodes, no_nodes, more_nodes}
-use Rattle.pin_flow.specs.Marks.{Mark, State, Ways, at, either, in_turn, turned, end_state, round_of, head_of, flow, flow_node, Each, EachIn}
+use Rattle.pin_flow.specs.Marks.{Mark, AllPaths, Ways, at, either, in_turn, turned, end_state, round_of, head_of, flow, flow_node, Each, EachIn}
 use Rattle.mark_sets.specs.Sets.{Sets, ways_at, state_at, end_all, with_killed, killed, summary}
 use Rattle.mark_sets.specs.Walks.{kills, kills_in, Went, walk, walk_in, AllEach, AllEachIn}
 use Rattle.mark_sets.proofs.Exact.{after_at, either_at, in_turn_at, turned_at, end_at, heads_by_killed}
@@ -68,7 +68,7 @@ module _ {I : Type 0} (m : I → Mark) where
     by_node (next_ p) t r = record { ways = λ i. refl; left = refl }
     by_node (ret p x) t r = record { ways = λ i. refl; left = refl }
 
-module _ {I : Type 0} (m : I → Mark) (R : I → Act → State → Type 0) where
+module _ {I : Type 0} (m : I → Mark) (R : I → Act → AllPaths → Type 0) where
   mutual
     unfolding flow kills walk
 
@@ -130,6 +130,6 @@ module _ {I : Type 0} (m : I → Mark) (R : I → Act → State → Type 0) wher
     from_node (next_ p) t r e = tt
     from_node (ret p x) t r e = tt
 
-pub walks_are_exact : (R : ℕ → Act → State → Bool) (m : ℕ → Mark) (ns : Nodes) (t : Sets ℕ)
+pub walks_are_exact : (R : ℕ → Act → AllPaths → Bool) (m : ℕ → Mark) (ns : Nodes) (t : Sets ℕ)
     → AllEach (λ i a s. R i a s ≡ true) m ns t (kills m ns []) ↔ ((i : ℕ) → Each (λ a s. R i a s ≡ true) (m i) ns (state_at i t))
 walks_are_exact R m ns t = (to_row m (λ i a s. R i a s ≡ true) ns t [], from_row m (λ i a s. R i a s ≡ true) ns t [])

@@ -3,7 +3,7 @@ use Rattle.std.specs.Prelude.{◌≡◌, ◌<◌, ℕ, Option, Some, None, get_o
 use Rattle.struct_ir.specs.Nodes.{Nodes}
 use Rattle.pin_flow.specs.declared.mark.Mark.{Mark as CodeMark}
 use Rattle.pin_flow.specs.declared.mark.Mark.TheVariants as kinds
-use Rattle.pin_flow.specs.Marks.{Mark, State, Ways, unreached, good, bad, state_of, in_turn, flow}
+use Rattle.pin_flow.specs.Marks.{Mark, AllPaths, Ways, unreached, good, bad, state_of, in_turn, flow}
 use Rattle.pin_flow.specs.Views.{mark_view}
 use Rattle.mark_sets.specs.declared.marks.Marks.{Marks}
 use Rattle.mark_sets.specs.declared.sets.Sets.{Sets as CodeSets}
@@ -65,25 +65,25 @@ first_of (Some i) other = Some i
 -- ---- states
 
 -- some path says no
-abbrev pub is_bad : State → Bool
+abbrev pub is_bad : AllPaths → Bool
 is_bad unreached = false
 is_bad good = false
 is_bad bad = true
 
 -- with a no of its own, if there is one, wherever a path comes
-abbrev pub with_bad : Bool → State → State
+abbrev pub with_bad : Bool → AllPaths → AllPaths
 with_bad x unreached = unreached
 with_bad x good = state_of (not x)
 with_bad x bad = bad
 
 -- the one where each path says yes, the other where some path says no
-abbrev pub led : State → State → State → State
+abbrev pub led : AllPaths → AllPaths → AllPaths → AllPaths
 led first second unreached = unreached
 led first second good = first
 led first second bad = second
 
 -- what a row makes of a state, by what it makes of a yes and of a no
-abbrev pub led_by : Sets (Both ℕ) → ℕ → State → State
+abbrev pub led_by : Sets (Both ℕ) → ℕ → AllPaths → AllPaths
 led_by s i t = led (state_at (i, true) s) (state_at (i, false) s) t
 
 -- ---- what the first walk finds
@@ -93,5 +93,5 @@ abbrev pub FlowsFrom : Marks → Sets (Both ℕ) → Nodes → AllWays (Both ℕ
 FlowsFrom x t ns o = (k : CodeMark) (i : ℕ) (v : Bool) → bit_of x k ≡ Some i → ways_at (i, v) o ≡ flow (mark_view k) ns (state_at (i, v) t)
 
 -- ... and control that leaves a row so goes on as this says
-abbrev pub GoesOn : Marks → AllWays (Both ℕ) → (Mark → State → Ways) → AllWays (Both ℕ) → Type 0
+abbrev pub GoesOn : Marks → AllWays (Both ℕ) → (Mark → AllPaths → Ways) → AllWays (Both ℕ) → Type 0
 GoesOn x a f o = (k : CodeMark) (i : ℕ) (v : Bool) → bit_of x k ≡ Some i → ways_at (i, v) o ≡ in_turn (ways_at (i, v) a) (f (mark_view k) (state_at (i, v) a.on))

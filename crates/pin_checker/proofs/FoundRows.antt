@@ -9,7 +9,7 @@ use Rattle.struct_ir.specs.Nodes.{Act, Node, plain, if_, loop, break_, next_, re
 use Rattle.struct_ir.specs.declared.code.NodeKind.{NodeKind}
 use Rattle.struct_ir.specs.Views.{kind_view, node_view, nodes_view}
 use Rattle.struct_ir.proofs.Views.{if_is, loop_is}
-use Rattle.pin_flow.specs.Marks.{State, unreached, good, bad, join, Ways, at, in_turn, end_state, round_of, head_of, flow, flow_node}
+use Rattle.pin_flow.specs.Marks.{AllPaths, unreached, good, bad, join, Ways, at, in_turn, end_state, round_of, head_of, flow, flow_node}
 use Rattle.pin_flow.proofs.Order.{flow_idle, node_idle}
 use Rattle.pin_flow.proofs.FlowRows as flows
 use Rattle.pin_checker.specs.declared.fault.Why.{Why}
@@ -87,11 +87,11 @@ then_from more f best with_it without e = ap more e ∙ (f (earlier_of best with
 mutual
   unfolding report report_node
 
-  pub report_from : (s : Search) (ns : Nodes) (t : State) (best : Option Fault) → report s ns t best ≡ earlier_of best (report s ns t None)
+  pub report_from : (s : Search) (ns : Nodes) (t : AllPaths) (best : Option Fault) → report s ns t best ≡ earlier_of best (report s ns t None)
   report_from s no_nodes t best = refl
   report_from s (more_nodes n rest) t best = then_from (report s rest (flow_node s.mark n t).on) (λ b. report_from s rest (flow_node s.mark n t).on b) best (report_node s n t best) (report_node s n t None) (node_from s n t best)
 
-  node_from : (s : Search) (n : Node) (t : State) (best : Option Fault) → report_node s n t best ≡ earlier_of best (report_node s n t None)
+  node_from : (s : Search) (n : Node) (t : AllPaths) (best : Option Fault) → report_node s n t best ≡ earlier_of best (report_node s n t None)
   node_from s (plain p a) t best = noted_from (s.blames a t) p s.why best
   node_from s (if_ p x one other) t best = then_from (report s other t) (λ b. report_from s other t b) best (report s one t best) (report s one t None) (report_from s one t best)
   node_from s (loop p body latch) t best =
@@ -148,12 +148,12 @@ idle_search searches.Bare a = never _
 
 -- ---- what is found from any state, by what is found from two
 
-pub from_row : (s : Search) → IsIdle s → (ns : Nodes) (t : State) → from (both_of (found_in s ns)) t ≡ found_in s ns t
+pub from_row : (s : Search) → IsIdle s → (ns : Nodes) (t : AllPaths) → from (both_of (found_in s ns)) t ≡ found_in s ns t
 from_row s i ns unreached = λ j. record { ways = sym (flow_idle s.mark ns) j; first = sym (report_idle s i ns) j }
 from_row s i ns good = refl
 from_row s i ns bad = refl
 
-pub from_node : (s : Search) → IsIdle s → (n : Node) (t : State) → from (both_of (found_at s n)) t ≡ found_at s n t
+pub from_node : (s : Search) → IsIdle s → (n : Node) (t : AllPaths) → from (both_of (found_at s n)) t ≡ found_at s n t
 from_node s i n unreached = λ j. record { ways = sym (node_idle s.mark n) j; first = sym (at_idle s i n) j }
 from_node s i n good = refl
 from_node s i n bad = refl
@@ -181,16 +181,16 @@ row_over s list i a all le inv =
     λ j. record { ways = w j; first = v j }
 
 -- before the first one
-pub row_start : (s : Search) (ns : Nodes) (t : State) → followed s (record { ways = at t; first = None }) ns ≡ found_in s ns t
+pub row_start : (s : Search) (ns : Nodes) (t : AllPaths) → followed s (record { ways = at t; first = None }) ns ≡ found_in s ns t
 row_start s ns t = λ j. record { ways = flow s.mark ns t; first = report s ns t None }
 
 -- ---- nodes that hold others
 
-if_found : (s : Search) (p x : ℕ) (one other : Nodes) (t : State) → one_of (found_in s one t) (found_in s other t) ≡ found_at s (if_ p x one other) t
+if_found : (s : Search) (p x : ℕ) (one other : Nodes) (t : AllPaths) → one_of (found_in s one t) (found_in s other t) ≡ found_at s (if_ p x one other) t
 unfolding flow report_node
 if_found s p x one other t = λ j. record { ways = flow_node s.mark (if_ p x one other) t; first = sym (report_from s other t (report s one t None)) j }
 
-pub branch_found : (s : Search) (n : CodeNode) (temp : ℕ) (v w : Vec CodeNode) (t : State) (a b c : Found) → n.kind ≡ views.If temp v w → a ≡ found_in s (nodes_view v.items) t → b ≡ found_in s (nodes_view w.items) t → c ≡ one_of a b
+pub branch_found : (s : Search) (n : CodeNode) (temp : ℕ) (v w : Vec CodeNode) (t : AllPaths) (a b c : Found) → n.kind ≡ views.If temp v w → a ≡ found_in s (nodes_view v.items) t → b ≡ found_in s (nodes_view w.items) t → c ≡ one_of a b
     → c ≡ found_at s (node_view n) t
 branch_found s n temp v w t a b c is e f g = rw (if_is n temp v w is) (g ∙ ((λ j. one_of (e j) (f j)) ∙ if_found s n.place temp (nodes_view v.items) (nodes_view w.items) t))
 
@@ -203,21 +203,21 @@ branches_found s n temp v w a b c is e f g h =
     let y = h ∙ ((λ j. one_of (e j).bad (f j).bad) ∙ if_found s n.place temp one other bad) in
     rw (if_is n temp v w is) (λ j. record { good = x j; bad = y j })
 
-round_found : (s : Search) → IsIdle s → (body latch : Nodes) (t : State)
+round_found : (s : Search) → IsIdle s → (body latch : Nodes) (t : AllPaths)
     → round_from (both_of (found_in s body)) (both_of (found_in s latch)) t ≡ record { ways = round_of (flow s.mark body) (flow s.mark latch) t; first = report s latch (end_state (flow s.mark body t)) (report s body t None) }
 unfolding round_of
 round_found s i body latch t =
     let b = from_row s i body t in
-    let l = λ (u : State). from_row s i latch u in
+    let l = λ (u : AllPaths). from_row s i latch u in
     let z : end_state (from (both_of (found_in s body)) t).ways ≡ end_state (flow s.mark body t) = ap (λ (o : Found). end_state o.ways) b in
     let k : from (both_of (found_in s latch)) (end_state (from (both_of (found_in s body)) t).ways) ≡ found_in s latch (end_state (flow s.mark body t)) = ap (from (both_of (found_in s latch))) z ∙ l (end_state (flow s.mark body t)) in
     (λ j. record { ways = Rattle.pin_flow.specs.Marks.turned (b j).ways (k j).ways; first = earlier_of (b j).first (k j).first })
     ∙ (λ j. record { ways = round_of (flow s.mark body) (flow s.mark latch) t; first = sym (report_from s latch (end_state (flow s.mark body t)) (report s body t None)) j })
 
-loop_found : (s : Search) → IsIdle s → (p : ℕ) (body latch : Nodes) (t : State) → looped (both_of (found_in s body)) (both_of (found_in s latch)) t ≡ found_at s (loop p body latch) t
+loop_found : (s : Search) → IsIdle s → (p : ℕ) (body latch : Nodes) (t : AllPaths) → looped (both_of (found_in s body)) (both_of (found_in s latch)) t ≡ found_at s (loop p body latch) t
 unfolding flow report_node head_of
 loop_found s i p body latch t =
-    let r = λ (u : State). round_found s i body latch u in
+    let r = λ (u : AllPaths). round_found s i body latch u in
     let b = both_of (found_in s body) in
     let l = both_of (found_in s latch) in
     let h : join t (round_from b l t).ways.on ≡ head_of (flow s.mark body) (flow s.mark latch) t = ap (λ (o : Found). join t o.ways.on) (r t) in
@@ -235,7 +235,7 @@ rounds_found s i n v w a b c is e f g h =
 
 -- ---- nodes that hold none
 
-alone_at : (s : Search) (x : Node) → is_leaf x ≡ true → (t : State) → noted (blames_at s x t) (Rattle.struct_ir.specs.Nodes.node_place x) s.why None ≡ report_node s x t None
+alone_at : (s : Search) (x : Node) → is_leaf x ≡ true → (t : AllPaths) → noted (blames_at s x t) (Rattle.struct_ir.specs.Nodes.node_place x) s.why None ≡ report_node s x t None
 unfolding report_node
 alone_at s (plain p a) e t = refl
 alone_at s (if_ p x one other) e t = absurd (let h : false ≡ true = e in cc)
@@ -245,7 +245,7 @@ alone_at s (next_ p) e t = refl
 alone_at s (ret p x) e t = refl
 
 -- one that holds no others
-pub alone_found : (s : Search) (n : CodeNode) (t : State) (a : Found) → is_leaf (node_view n) ≡ true → a.ways ≡ flow_node s.mark (node_view n) t → a.first ≡ noted (blames_at s (node_view n) t) n.place s.why None → a ≡ found_at s (node_view n) t
+pub alone_found : (s : Search) (n : CodeNode) (t : AllPaths) (a : Found) → is_leaf (node_view n) ≡ true → a.ways ≡ flow_node s.mark (node_view n) t → a.first ≡ noted (blames_at s (node_view n) t) n.place s.why None → a ≡ found_at s (node_view n) t
 alone_found s n t a l e f =
     let g = f ∙ (ap (λ p. noted (blames_at s (node_view n) t) p s.why None) (rows.place_is n.place n.kind) ∙ alone_at s (node_view n) l t) in
     λ j. record { ways = e j; first = g j }

@@ -6,7 +6,7 @@ use Rattle.struct_ir.specs.Nodes.{Act, Node, plain, if_, loop, break_, next_, re
 use Rattle.struct_ir.specs.Flow.{does}
 use Rattle.struct_ir.specs.Structured.{Position, done, then_, in_body, in_latch, here}
 use Rattle.struct_ir.specs.Valid.{Scope, Around, body_of, latch_of, outside, scope_of, list_at}
-use Rattle.pin_flow.specs.Marks.{State, state_of, flow, flow_node, head_of, end_state}
+use Rattle.pin_flow.specs.Marks.{AllPaths, state_of, flow, flow_node, head_of, end_state}
 use Rattle.pin_flow.proofs.EachAt.{EachAt, EachAtIn}
 use Rattle.pin_checker.specs.declared.fault.Why.TheVariants.{BadTemp}
 use Rattle.pin_checker.specs.declared.fault.Fault.{Fault}
@@ -39,20 +39,20 @@ placed_at (in_latch body latch k) p a e = absurd cc
 
 module _ (c : Option Fault) (s : Search) where
   -- c is no later than what fails
-  abbrev pub Quiet : Act → State → Position → Type 0
+  abbrev pub Quiet : Act → AllPaths → Position → Type 0
   Quiet a t k = s.blames a t ≡ true → AtMost c (Some (made (place_at k) s.why))
 
   mutual
     unfolding report report_node
 
-    pub report_least : (ns : Nodes) (k : Position) (t : State) (best : Option Fault) → AtMost c (report s ns t best) → AtMost c best × EachAt Quiet s.mark ns k t
+    pub report_least : (ns : Nodes) (k : Position) (t : AllPaths) (best : Option Fault) → AtMost c (report s ns t best) → AtMost c best × EachAt Quiet s.mark ns k t
     report_least no_nodes k t best h = (h, tt)
     report_least (more_nodes n rest) k t best h =
         let y = report_least rest k (flow_node s.mark n t).on (report_node s n t best) h in
         let x = node_least n rest k t best y.0 in
         (x.0, (x.1, y.1))
 
-    node_least : (n : Node) (rest : Nodes) (k : Position) (t : State) (best : Option Fault) → AtMost c (report_node s n t best) → AtMost c best × EachAtIn Quiet s.mark n rest k t
+    node_least : (n : Node) (rest : Nodes) (k : Position) (t : AllPaths) (best : Option Fault) → AtMost c (report_node s n t best) → AtMost c best × EachAtIn Quiet s.mark n rest k t
     node_least (plain p a) rest k t best h = noted_least c (s.blames a t) p s.why best h
     node_least (if_ p x one other) rest k t best h =
         let y = report_least other (then_ rest k) t (report s one t best) h in

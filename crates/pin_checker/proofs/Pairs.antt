@@ -3,7 +3,7 @@ use Rattle.std.proofs.Common.{◌≡◌, ℕ, List, [], ◌∷◌, ◌++◌, Opt
 use Rattle.std.specs.Prelude.{◌&&◌, ◌==◌, if◌then◌else◌}
 use Rattle.std.proofs.lemmas.Bool.{or_cases, or_left, or_right, and_parts, and_from, eqb-true, eq-eqb}
 use Rattle.struct_ir.specs.Nodes.{Place, Act, Node, plain, if_, loop, break_, next_, ret, Nodes, no_nodes, more_nodes, places_of}
-use Rattle.pin_flow.specs.Marks.{State, Each, EachIn}
+use Rattle.pin_flow.specs.Marks.{AllPaths, Each, EachIn}
 use Rattle.pin_flow.specs.Held.{held}
 use Rattle.pin_flow.specs.Live.{is_slot, has, uses}
 use Rattle.pin_flow.proofs.Live.{slot_is}
@@ -70,17 +70,17 @@ mutual
 
 -- an access of the pair is in the list
 module _ (slot b : ℕ) (all : List Pair) where
-  abbrev pub IsListed : Act → State → Type 0
+  abbrev pub IsListed : Act → AllPaths → Type 0
   IsListed a t = uses slot b a ≡ true → has_pair (pair slot b) all ≡ true
 
   mutual
     unfolding pairs_of pairs_in
 
-    each_listed : (ns : Nodes) (l : List Pair) (t : State) → IsWithin (pairs_of ns l) all → Each IsListed (held 0) ns t
+    each_listed : (ns : Nodes) (l : List Pair) (t : AllPaths) → IsWithin (pairs_of ns l) all → Each IsListed (held 0) ns t
     each_listed no_nodes l t w = tt
     each_listed (more_nodes n rest) l t w = (in_listed n l t (λ q e. w q (pairs_keep rest (pairs_in n l) q e)), each_listed rest (pairs_in n l) _ w)
 
-    in_listed : (n : Node) (l : List Pair) (t : State) → IsWithin (pairs_in n l) all → EachIn IsListed (held 0) n t
+    in_listed : (n : Node) (l : List Pair) (t : AllPaths) → IsWithin (pairs_in n l) all → EachIn IsListed (held 0) n t
     in_listed (plain p a) l t w = λ e. w (pair slot b) (places_add slot b (places_of a) l e)
     in_listed (if_ p x one other) l t w = (each_listed one l t (λ q e. w q (pairs_keep other (pairs_of one l) q e)), each_listed other (pairs_of one l) t w)
     in_listed (loop p body latch) l t w = (each_listed body l _ (λ q e. w q (pairs_keep latch (pairs_of body l) q e)), each_listed latch (pairs_of body l) _ w)
@@ -88,5 +88,5 @@ module _ (slot b : ℕ) (all : List Pair) where
     in_listed (next_ p) l t w = tt
     in_listed (ret p x) l t w = tt
 
-pub all_listed : (slot b : ℕ) (ns : Nodes) (t : State) → Each (IsListed slot b (pairs_of ns [])) (held 0) ns t
+pub all_listed : (slot b : ℕ) (ns : Nodes) (t : AllPaths) → Each (IsListed slot b (pairs_of ns [])) (held 0) ns t
 all_listed slot b ns t = each_listed slot b (pairs_of ns []) ns [] t (λ q e. e)

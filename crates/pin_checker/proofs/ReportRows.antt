@@ -7,7 +7,7 @@ use Rattle.struct_ir.specs.declared.code.NodeKind.{NodeKind}
 use Rattle.struct_ir.specs.declared.code.NodeKind.TheVariants as kinds
 use Rattle.struct_ir.specs.Valid.{Scope, Around, list_at}
 use Rattle.struct_ir.specs.Views.{kind_view, node_view, nodes_view}
-use Rattle.pin_flow.specs.Marks.{State, flow_node}
+use Rattle.pin_flow.specs.Marks.{AllPaths, flow_node}
 use Rattle.pin_flow.proofs.FlowRows.{split_at}
 use Rattle.pin_checker.specs.declared.fault.Fault.{Fault}
 use Rattle.pin_checker.specs.declared.fault.Why.TheVariants.{BadTemp}
@@ -16,14 +16,14 @@ use Rattle.pin_checker.specs.inner.Reports.{Search, noted, report, report_node, 
 use Rattle.struct_ir.specs.Nodes.{node_place}
 
 -- one node more
-pub row_on : (s : Search) (rows : List CodeNode) (i : ℕ) (x : CodeNode) (t t' : State) (best best' all : Option Fault) → i < length rows → x ≡ get_or rows i x → report s (nodes_view (drop i rows)) t best ≡ all
+pub row_on : (s : Search) (rows : List CodeNode) (i : ℕ) (x : CodeNode) (t t' : AllPaths) (best best' all : Option Fault) → i < length rows → x ≡ get_or rows i x → report s (nodes_view (drop i rows)) t best ≡ all
     → best' ≡ report_node s (node_view x) t best → t' ≡ (flow_node s.mark (node_view x) t).on → report s (nodes_view (drop (i + 1) rows)) t' best' ≡ all
 unfolding report
 row_on s rows i x t t' best best' all le is inv e f =
     (λ j. report s (nodes_view (drop (i + 1) rows)) (f j) (e j)) ∙ (ap (λ l. report s (nodes_view l) t best) (sym (split_at rows i x le is)) ∙ inv)
 
 -- no node more
-pub row_over : (s : Search) (rows : List CodeNode) (i : ℕ) (t : State) (best all : Option Fault) → length rows ≤ i → report s (nodes_view (drop i rows)) t best ≡ all → best ≡ all
+pub row_over : (s : Search) (rows : List CodeNode) (i : ℕ) (t : AllPaths) (best all : Option Fault) → length rows ≤ i → report s (nodes_view (drop i rows)) t best ≡ all → best ≡ all
 unfolding report
 row_over s rows i t best all le inv = ap (λ l. report s (nodes_view l) t best) (sym (drop_all i rows le)) ∙ inv
 

@@ -8,7 +8,7 @@ use Rattle.struct_ir.specs.Structured.{Position, done, then_, in_body, in_latch,
 use Rattle.struct_ir.specs.Pins.{Fact, unlooked, looked, facts, lacks_if, held_by, is_fresh, Among}
 use Rattle.struct_ir.specs.Valid.{Scope, Around, body_of, latch_of, outside, scope_of, list_at}
 use Rattle.pin_flow.specs.Looks.{Uses}
-use Rattle.pin_flow.specs.Marks.{Mark, IsFair, State, unreached, good, bad, state_of, answer_from, flow, flow_node, head_of, end_state}
+use Rattle.pin_flow.specs.Marks.{Mark, IsFair, AllPaths, unreached, good, bad, state_of, answer_from, flow, flow_node, head_of, end_state}
 use Rattle.pin_flow.specs.Held.{held, filled, filled_for, fresh, pinned}
 use Rattle.pin_flow.specs.Live.{uses}
 use Rattle.pin_flow.proofs.Real.{Seen, row_seen, node_seen, seen_on, loop_seen}
@@ -96,16 +96,16 @@ module _ (F : ℕ → Why → Type 0) where
 
   -- ---- accesses
 
-  module _ (s : Search) (fair : IsFair s.mark) (start : Position) (shows : (p : ℕ) (a : Act) (t : State) (k : Position) → here k ≡ does p a → Seen s.start s.mark fair start k t → s.blames a t ≡ true → IsShown p s.why) where
+  module _ (s : Search) (fair : IsFair s.mark) (start : Position) (shows : (p : ℕ) (a : Act) (t : AllPaths) (k : Position) → here k ≡ does p a → Seen s.start s.mark fair start k t → s.blames a t ≡ true → IsShown p s.why) where
     mutual
       unfolding report report_node
 
-      report_shown : (ns : Nodes) (k : Position) (t : State) (best : Option Fault) → Seen s.start s.mark fair start (then_ ns k) t → AreShown best → AreShown (report s ns t best)
+      report_shown : (ns : Nodes) (k : Position) (t : AllPaths) (best : Option Fault) → Seen s.start s.mark fair start (then_ ns k) t → AreShown best → AreShown (report s ns t best)
       report_shown no_nodes k t best z r = r
       report_shown (more_nodes n rest) k t best z r =
           report_shown rest k (flow_node s.mark n t).on (report_node s n t best) ((node_seen s.start s.mark fair start n rest k t z).on) (node_shown n rest k t best z r)
 
-      node_shown : (n : Node) (rest : Nodes) (k : Position) (t : State) (best : Option Fault) → Seen s.start s.mark fair start (then_ (more_nodes n rest) k) t → AreShown best → AreShown (report_node s n t best)
+      node_shown : (n : Node) (rest : Nodes) (k : Position) (t : AllPaths) (best : Option Fault) → Seen s.start s.mark fair start (then_ (more_nodes n rest) k) t → AreShown best → AreShown (report_node s n t best)
       node_shown (plain p a) rest k t best z r = noted_shown (s.blames a t) p s.why best r (λ e. shows p a t (then_ (more_nodes (plain p a) rest) k) refl z e)
       node_shown (if_ p x one other) rest k t best z r =
           let n = if_ p x one other in
@@ -121,35 +121,35 @@ module _ (F : ℕ → Why → Type 0) where
       node_shown (ret p x) rest k t best z r = r
 
   module _ (ns : Nodes) (into : (place : ℕ) (why : Why) → Unsafe ns place why → F place why) where
-    all_shown : (s : Search) (fair : IsFair s.mark) → ((p : ℕ) (a : Act) (t : State) (k : Position) → here k ≡ does p a → Seen s.start s.mark fair (then_ ns done) k t → s.blames a t ≡ true → IsShown p s.why)
+    all_shown : (s : Search) (fair : IsFair s.mark) → ((p : ℕ) (a : Act) (t : AllPaths) (k : Position) → here k ≡ does p a → Seen s.start s.mark fair (then_ ns done) k t → s.blames a t ≡ true → IsShown p s.why)
         → (best : Option Fault) → AreShown best → AreShown (report_all s ns best)
     all_shown s fair shows best r = report_shown s fair (then_ ns done) shows ns done (state_of s.start) best (start_seen s.start s.mark fair ns) r
 
     -- an access of the pair in a bad state
     module _ (m : Mark) (fair : IsFair m) (v : Bool) (why : Why) (q : Pair) (yes : Fact → Bool) (says : (w : List Position) → yes (facts structured q.slot w) ≡ answer_from structured m v w)
         (reason : (out : Bool) (f : Fact) → yes f ≡ false → OneOf q.base out f why) where
-      bad_shown : (p : ℕ) (a : Act) (t : State) (k : Position) → here k ≡ does p a → Seen v m fair (then_ ns done) k t → uses q.slot q.base a ≡ true → is_bad t ≡ true → IsShown p why
+      bad_shown : (p : ℕ) (a : Act) (t : AllPaths) (k : Position) → here k ≡ does p a → Seen v m fair (then_ ns done) k t → uses q.slot q.base a ≡ true → is_bad t ≡ true → IsShown p why
       bad_shown p a unreached k h z u b = absurd cc
       bad_shown p a good k h z u b = absurd cc
       bad_shown p a bad k h z u b =
           let x = reason (lacks_if q.slot (held_by a)) (facts structured q.slot z.0) (says z.0 ∙ z.2) in
           (x.0, x.1, into p x.0 (blamed ns z.0 k z.1 p a h q.slot q.base (has_among q.slot q.base a u) x.0 x.2))
 
-      bad_only : (p : ℕ) (a : Act) (t : State) (k : Position) → here k ≡ does p a → Seen v m fair (then_ ns done) k t → (uses q.slot q.base a && is_bad t) ≡ true → IsShown p why
+      bad_only : (p : ℕ) (a : Act) (t : AllPaths) (k : Position) → here k ≡ does p a → Seen v m fair (then_ ns done) k t → (uses q.slot q.base a && is_bad t) ≡ true → IsShown p why
       bad_only p a t k h z e = let x = and_parts (uses q.slot q.base a) (is_bad t) e in bad_shown p a t k h z x.0 x.1
 
-    good_shown : (q : Pair) (m : Mark) (fair : IsFair m) (v : Bool) (p : ℕ) (a : Act) (t : State) (k : Position) → here k ≡ does p a → Seen v m fair (then_ ns done) k t → uses q.slot q.base a ≡ true
+    good_shown : (q : Pair) (m : Mark) (fair : IsFair m) (v : Bool) (p : ℕ) (a : Act) (t : AllPaths) (k : Position) → here k ≡ does p a → Seen v m fair (then_ ns done) k t → uses q.slot q.base a ≡ true
         → (lacks_if q.slot (list_of a) && is_good t) ≡ true → IsShown p NotPinned
     good_shown q m fair v p a t k h z u e = let x = and_parts (lacks_if q.slot (list_of a)) (is_good t) e in by_state t z x.0 x.1
       where
-        by_state : (t : State) → Seen v m fair (then_ ns done) k t → lacks_if q.slot (list_of a) ≡ true → is_good t ≡ true → IsShown p NotPinned
+        by_state : (t : AllPaths) → Seen v m fair (then_ ns done) k t → lacks_if q.slot (list_of a) ≡ true → is_good t ≡ true → IsShown p NotPinned
         by_state unreached z o g = absurd cc
         by_state bad z o g = absurd cc
         by_state good z o g =
             let y = out_shows q.base (lacks_if q.slot (held_by a)) (facts structured q.slot z.0) (ap (lacks_if q.slot) (own_is q.slot q.base a u) ∙ o) in
             (y.0, y.1, into p y.0 (blamed ns z.0 k z.1 p a h q.slot q.base (has_among q.slot q.base a u) y.0 y.2))
 
-    lacking_only : (q : Pair) (p : ℕ) (a : Act) (t : State) (k : Position) → here k ≡ does p a → Seen false (pinned q.slot q.base) (pinned_fair q.slot q.base) (then_ ns done) k t
+    lacking_only : (q : Pair) (p : ℕ) (a : Act) (t : AllPaths) (k : Position) → here k ≡ does p a → Seen false (pinned q.slot q.base) (pinned_fair q.slot q.base) (then_ ns done) k t
         → (for_lacking q).blames a t ≡ true → IsShown p NotPinned
     lacking_only q p a t k h z e =
         let x = and_parts (uses q.slot q.base a) (is_bad t || (lacks_if q.slot (list_of a) && is_good t)) e in
@@ -158,7 +158,7 @@ module _ (F : ℕ → Why → Type 0) where
           | inr i ↦ good_shown q (pinned q.slot q.base) (pinned_fair q.slot q.base) false p a t k h z x.0 i
         ]
 
-    bare_only : (p : ℕ) (a : Act) (t : State) (k : Position) → here k ≡ does p a → Seen false (held 0) (held_fair 0) (then_ ns done) k t → for_bare.blames a t ≡ true → IsShown p NoLook
+    bare_only : (p : ℕ) (a : Act) (t : AllPaths) (k : Position) → here k ≡ does p a → Seen false (held 0) (held_fair 0) (then_ ns done) k t → for_bare.blames a t ≡ true → IsShown p NoLook
     bare_only p a unreached k h z e = let x = and_parts (has_bare (places_of a)) false e in absurd (let y = x.1 in cc)
     bare_only p a good k h z e = let x = and_parts (has_bare (places_of a)) true e in (NoLook, omega arith, into p NoLook (bare_blamed ns z.0 k z.1 p a h x.0))
     bare_only p a bad k h z e = let x = and_parts (has_bare (places_of a)) true e in (NoLook, omega arith, into p NoLook (bare_blamed ns z.0 k z.1 p a h x.0))

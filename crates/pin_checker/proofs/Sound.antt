@@ -6,7 +6,7 @@ use Rattle.struct_ir.specs.Nodes.{Place, Act, set, call, step, look, safepoint, 
 use Rattle.struct_ir.specs.Flow.{does, Path}
 use Rattle.struct_ir.specs.Structured.{Position, done, then_, here, structured}
 use Rattle.struct_ir.specs.Pins.{Fact, unlooked, looked, facts, lacks_if, held_by, is_fresh, Among}
-use Rattle.pin_flow.specs.Marks.{IsFair, State, unreached, good, bad, state_of, answer_from}
+use Rattle.pin_flow.specs.Marks.{IsFair, AllPaths, unreached, good, bad, state_of, answer_from}
 use Rattle.pin_flow.specs.Held.{held, pinned}
 use Rattle.pin_flow.specs.Live.{uses}
 use Rattle.pin_flow.proofs.Order.{rank}
@@ -27,7 +27,7 @@ use Rattle.pin_checker.proofs.Pairs.{pair, IsListed, all_listed}
 
 -- ---- what fails in a state fails in a worse one
 
-bad_mono : (x : Bool) (t u : State) → rank t ≤ rank u → (x && is_bad t) ≡ true → (x && is_bad u) ≡ true
+bad_mono : (x : Bool) (t u : AllPaths) → rank t ≤ rank u → (x && is_bad t) ≡ true → (x && is_bad u) ≡ true
 bad_mono false t u le e = absurd cc
 bad_mono true unreached u le e = absurd cc
 bad_mono true good u le e = absurd cc
@@ -35,7 +35,7 @@ bad_mono true bad unreached le e = absurd (omega (arith, le))
 bad_mono true bad good le e = absurd (omega (arith, le))
 bad_mono true bad bad le e = refl
 
-lacking_mono : (x o : Bool) (t u : State) → rank t ≤ rank u → (x && (is_bad t || (o && is_good t))) ≡ true → (x && (is_bad u || (o && is_good u))) ≡ true
+lacking_mono : (x o : Bool) (t u : AllPaths) → rank t ≤ rank u → (x && (is_bad t || (o && is_good t))) ≡ true → (x && (is_bad u || (o && is_good u))) ≡ true
 lacking_mono false o t u le e = absurd cc
 lacking_mono true true unreached u le e = absurd cc
 lacking_mono true false unreached u le e = absurd cc
@@ -47,7 +47,7 @@ lacking_mono true o bad unreached le e = absurd (omega (arith, le))
 lacking_mono true o bad good le e = absurd (omega (arith, le))
 lacking_mono true o bad bad le e = refl
 
-bare_mono : (x : Bool) (t u : State) → rank t ≤ rank u → (x && (is_bad t || is_good t)) ≡ true → (x && (is_bad u || is_good u)) ≡ true
+bare_mono : (x : Bool) (t u : AllPaths) → rank t ≤ rank u → (x && (is_bad t || is_good t)) ≡ true → (x && (is_bad u || is_good u)) ≡ true
 bare_mono false t u le e = absurd cc
 bare_mono true unreached u le e = absurd cc
 bare_mono true good unreached le e = absurd (omega (arith, le))
@@ -58,7 +58,7 @@ bare_mono true bad good le e = absurd (omega (arith, le))
 bare_mono true bad bad le e = refl
 
 -- c is no later than an act that fails behind a path
-quiet_path : (c : Option Fault) (s : Search) → IsFair s.mark → ((a : Act) (t u : State) → rank t ≤ rank u → s.blames a t ≡ true → s.blames a u ≡ true) → (ns : Nodes) → QuietAll c ns s
+quiet_path : (c : Option Fault) (s : Search) → IsFair s.mark → ((a : Act) (t u : AllPaths) → rank t ≤ rank u → s.blames a t ≡ true → s.blames a u ≡ true) → (ns : Nodes) → QuietAll c ns s
     → (w : List Position) (k : Position) → Path structured (then_ ns done) w k → (p : ℕ) (a : Act) → here k ≡ does p a → s.blames a (state_of (answer_from structured s.mark s.start w)) ≡ true → AtMost c (Some (made p s.why))
 quiet_path c s fair mono ns q w k path p a h b =
     subst (λ n. AtMost c (Some (made n s.why))) (placed_at k p a h) (each_holds_at (Quiet c s) s.mark fair (λ x j t u le f e. f (mono x t u le e)) s.start ns q w k path p a h b)

@@ -4,7 +4,7 @@ use Rattle.std.specs.Prelude.{not}
 use Rattle.std.proofs.lemmas.Bool.{and_parts, and_from}
 use Rattle.struct_ir.specs.Nodes.{Act, Node, plain, if_, loop, break_, next_, ret, Nodes, no_nodes, more_nodes, list_of}
 use Rattle.struct_ir.specs.Pins.{lacks_if}
-use Rattle.pin_flow.specs.Marks.{Mark, State, unreached, good, bad, after, Ways, end_state, round_of, head_of, flow, flow_node}
+use Rattle.pin_flow.specs.Marks.{Mark, AllPaths, unreached, good, bad, after, Ways, end_state, round_of, head_of, flow, flow_node}
 use Rattle.pin_flow.specs.Looks.{act_looks, act_assigns, looks_into}
 use Rattle.pin_flow.specs.Held.{filled, filled_for, fresh, pinned}
 use Rattle.pin_flow.specs.Live.{uses}
@@ -20,7 +20,7 @@ IsStronger m m' = (a : Act) (v v' : Bool) → (v ≡ true → v' ≡ true) → m
 
 -- ---- states by a stronger mark are no better
 
-after_leads : (f g : Bool → Bool) → ((v v' : Bool) → (v ≡ true → v' ≡ true) → f v ≡ true → g v' ≡ true) → (t u : State) → rank t ≤ rank u → rank (after g t) ≤ rank (after f u)
+after_leads : (f g : Bool → Bool) → ((v v' : Bool) → (v ≡ true → v' ≡ true) → f v ≡ true → g v' ≡ true) → (t u : AllPaths) → rank t ≤ rank u → rank (after g t) ≤ rank (after f u)
 after_leads f g h unreached u le = omega arith
 after_leads f g h good unreached le = absurd (omega arith)
 after_leads f g h good good le = of_mono (f true) (g true) (h true true (λ e. e))
@@ -30,14 +30,14 @@ after_leads f g h bad good le = absurd (omega arith)
 after_leads f g h bad bad le = of_mono (f false) (g false) (h false false (λ e. e))
 
 -- from a state that is no worse, the first leads to states that are no worse
-abbrev pub IsUnder : (State → Ways) → (State → Ways) → Type 0
-IsUnder f g = (t u : State) → rank t ≤ rank u → Below (f t) (g u)
+abbrev pub IsUnder : (AllPaths → Ways) → (AllPaths → Ways) → Type 0
+IsUnder f g = (t u : AllPaths) → rank t ≤ rank u → Below (f t) (g u)
 
-round_under : (f g f' g' : State → Ways) → IsUnder f f' → IsUnder g g' → IsUnder (round_of f g) (round_of f' g')
+round_under : (f g f' g' : AllPaths → Ways) → IsUnder f f' → IsUnder g g' → IsUnder (round_of f g) (round_of f' g')
 unfolding round_of
 round_under f g f' g' mf mg t u h = turned_mono _ _ _ _ (mf t u h) (mg _ _ (end_mono _ _ (mf t u h)))
 
-head_under : (f g f' g' : State → Ways) → IsUnder f f' → IsUnder g g' → (t u : State) → rank t ≤ rank u → rank (head_of f g t) ≤ rank (head_of f' g' u)
+head_under : (f g f' g' : AllPaths → Ways) → IsUnder f f' → IsUnder g g' → (t u : AllPaths) → rank t ≤ rank u → rank (head_of f g t) ≤ rank (head_of f' g' u)
 unfolding head_of
 head_under f g f' g' mf mg t u h = join_mono _ _ _ _ h ((round_under f g f' g' mf mg t u h).on)
 
@@ -73,11 +73,11 @@ noted_none false place why best e = (refl, e)
 mutual
   unfolding report report_node
 
-  none_before : (s : Search) (ns : Nodes) (t : State) (best : Option Fault) → report s ns t best ≡ None → best ≡ None
+  none_before : (s : Search) (ns : Nodes) (t : AllPaths) (best : Option Fault) → report s ns t best ≡ None → best ≡ None
   none_before s no_nodes t best e = e
   none_before s (more_nodes n rest) t best e = none_in s n t best (none_before s rest (flow_node s.mark n t).on (report_node s n t best) e)
 
-  none_in : (s : Search) (n : Node) (t : State) (best : Option Fault) → report_node s n t best ≡ None → best ≡ None
+  none_in : (s : Search) (n : Node) (t : AllPaths) (best : Option Fault) → report_node s n t best ≡ None → best ≡ None
   none_in s (plain p a) t best e = (noted_none (s.blames a t) p s.why best e).1
   none_in s (if_ p x one other) t best e = none_before s one t best (none_before s other t (report s one t best) e)
   none_in s (loop p body latch) t best e =
@@ -89,19 +89,19 @@ mutual
 
 -- what the second search blames, the first one does
 abbrev pub Leads : Search → Search → Type 0
-Leads s s' = (a : Act) (t u : State) → rank t ≤ rank u → s.blames a u ≡ false → s'.blames a t ≡ false
+Leads s s' = (a : Act) (t u : AllPaths) → rank t ≤ rank u → s.blames a u ≡ false → s'.blames a t ≡ false
 
 mutual
   unfolding report report_node
 
-  clear : (s s' : Search) → IsStronger s.mark s'.mark → Leads s s' → (ns : Nodes) (t u : State) → rank t ≤ rank u → report s ns u None ≡ None → (best : Option Fault) → report s' ns t best ≡ best
+  clear : (s s' : Search) → IsStronger s.mark s'.mark → Leads s s' → (ns : Nodes) (t u : AllPaths) → rank t ≤ rank u → report s ns u None ≡ None → (best : Option Fault) → report s' ns t best ≡ best
   clear s s' m l no_nodes t u le e best = refl
   clear s s' m l (more_nodes n rest) t u le e best =
       let first : report_node s n u None ≡ None = none_before s rest (flow_node s.mark n u).on (report_node s n u None) e in
       let second : report s rest (flow_node s.mark n u).on None ≡ None = ap (report s rest (flow_node s.mark n u).on) (sym first) ∙ e in
       clear s s' m l rest _ _ ((node_under s.mark s'.mark m n t u le).on) second (report_node s' n t best) ∙ clear_in s s' m l n t u le first best
 
-  clear_in : (s s' : Search) → IsStronger s.mark s'.mark → Leads s s' → (n : Node) (t u : State) → rank t ≤ rank u → report_node s n u None ≡ None → (best : Option Fault) → report_node s' n t best ≡ best
+  clear_in : (s s' : Search) → IsStronger s.mark s'.mark → Leads s s' → (n : Node) (t u : AllPaths) → rank t ≤ rank u → report_node s n u None ≡ None → (best : Option Fault) → report_node s' n t best ≡ best
   clear_in s s' m l (plain p a) t u le e best = ap (λ v. noted v p s'.why best) (l a t u le ((noted_none (s.blames a u) p s.why None e).0))
   clear_in s s' m l (if_ p x one other) t u le e best =
       let first : report s one u None ≡ None = none_before s other u (report s one u None) e in
@@ -150,7 +150,7 @@ to_lacking : (slot b : ℕ) → IsStronger (pinned slot b) (pinned slot b)
 to_lacking slot b a v v' h =
     if_leads (looks_into slot a) (act_looks b a) _ _ (λ e. let k = kept (not (act_assigns b a)) (not (lacks_if slot (list_of a))) v e in and_from _ _ k.0 (and_from _ _ k.1 (h k.2)))
 
-bad_leads : (x o : Bool) (t u : State) → rank t ≤ rank u → (x && (is_bad u || (o && is_good u))) ≡ false → (x && is_bad t) ≡ false
+bad_leads : (x o : Bool) (t u : AllPaths) → rank t ≤ rank u → (x && (is_bad u || (o && is_good u))) ≡ false → (x && is_bad t) ≡ false
 bad_leads false o t u le e = refl
 bad_leads true o unreached u le e = refl
 bad_leads true o good u le e = refl
@@ -158,7 +158,7 @@ bad_leads true o bad unreached le e = absurd (omega (arith, le))
 bad_leads true o bad good le e = absurd (omega (arith, le))
 bad_leads true o bad bad le e = e
 
-lacking_leads : (x o : Bool) (t u : State) → rank t ≤ rank u → (x && (is_bad u || (o && is_good u))) ≡ false → (x && (is_bad t || (o && is_good t))) ≡ false
+lacking_leads : (x o : Bool) (t u : AllPaths) → rank t ≤ rank u → (x && (is_bad u || (o && is_good u))) ≡ false → (x && (is_bad t || (o && is_good t))) ≡ false
 lacking_leads false o t u le e = refl
 lacking_leads true true unreached u le e = refl
 lacking_leads true false unreached u le e = refl
@@ -172,7 +172,7 @@ lacking_leads true o bad bad le e = e
 -- where no list lacks the slot behind a Look of the base that isn't stale, nothing else fails
 pub pair_is : (ns : Nodes) (q : Pair) (best : Option Fault) → report_all (for_lacking q) ns None ≡ None → report_pair ns q best ≡ best
 pair_is ns q best e =
-    let bads = λ (a : Act) (t u : State). bad_leads (uses q.slot q.base a) (lacks_if q.slot (list_of a)) t u in
+    let bads = λ (a : Act) (t u : AllPaths). bad_leads (uses q.slot q.base a) (lacks_if q.slot (list_of a)) t u in
     let other = clear (for_lacking q) (for_other q) (to_other q.slot q.base) bads ns good bad (omega arith) e in
     let none = clear (for_lacking q) (for_none q) (to_none q.slot q.base) bads ns bad bad (omega arith) e in
     let stale = clear (for_lacking q) (for_stale q) (to_stale q.slot q.base) bads ns bad bad (omega arith) e in

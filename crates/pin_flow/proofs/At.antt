@@ -4,21 +4,21 @@ use Rattle.std.proofs.lemmas.Bool.{or_parts, or_cases}
 use Rattle.struct_ir.specs.Nodes.{Act, Node, plain, if_, loop, break_, next_, ret, Nodes, no_nodes, more_nodes}
 use Rattle.struct_ir.specs.Flow.{does}
 use Rattle.struct_ir.specs.Structured.{Position, then_, in_body, in_latch, here}
-use Rattle.pin_flow.specs.Marks.{Mark, IsFair, State, Ways, head_of, end_state, flow, Each, EachIn, EveryAct, EveryActIn}
+use Rattle.pin_flow.specs.Marks.{Mark, IsFair, AllPaths, Ways, head_of, end_state, flow, Each, EachIn, EveryAct, EveryActIn}
 use Rattle.pin_flow.specs.Looks.{some_act, some_in}
 use Rattle.pin_flow.proofs.Switch.{flow_agree, node_agree}
 pub use Rattle.pin_flow.proofs.EachAt.{EachAt, EachAtIn}
 use Rattle.pin_flow.proofs.Real.{Seen, row_seen, node_seen, seen_on, loop_seen}
 
-module _ (E : Act → State → Position → Type 0) (m : Mark) where
+module _ (E : Act → AllPaths → Position → Type 0) (m : Mark) where
   -- without the positions
-  module _ (Q : Act → State → Type 0) (tells : (a : Act) (t : State) (k : Position) → E a t k → Q a t) where
+  module _ (Q : Act → AllPaths → Type 0) (tells : (a : Act) (t : AllPaths) (k : Position) → E a t k → Q a t) where
     mutual
-      pub each_of : (ns : Nodes) (k : Position) (t : State) → EachAt E m ns k t → Each Q m ns t
+      pub each_of : (ns : Nodes) (k : Position) (t : AllPaths) → EachAt E m ns k t → Each Q m ns t
       each_of no_nodes k t e = tt
       each_of (more_nodes n rest) k t e = (in_of n rest k t e.0, each_of rest k _ e.1)
 
-      in_of : (n : Node) (rest : Nodes) (k : Position) (t : State) → EachAtIn E m n rest k t → EachIn Q m n t
+      in_of : (n : Node) (rest : Nodes) (k : Position) (t : AllPaths) → EachAtIn E m n rest k t → EachIn Q m n t
       in_of (plain p a) rest k t e = tells a t _ e
       in_of (if_ p x one other) rest k t e = (each_of one _ t e.0, each_of other _ t e.1)
       in_of (loop p body latch) rest k t e = (each_of body _ _ e.0, each_of latch _ _ e.1)
@@ -27,13 +27,13 @@ module _ (E : Act → State → Position → Type 0) (m : Mark) where
       in_of (ret p x) rest k t e = tt
 
   -- without the states, for what paths show
-  module _ (fair : IsFair m) (start : Position) (R : Act → Position → Type 0) (shows : (p : ℕ) (a : Act) (t : State) (k : Position) → here k ≡ does p a → Seen false m fair start k t → E a t k → R a k) where
+  module _ (fair : IsFair m) (start : Position) (R : Act → Position → Type 0) (shows : (p : ℕ) (a : Act) (t : AllPaths) (k : Position) → here k ≡ does p a → Seen false m fair start k t → E a t k → R a k) where
     mutual
-      pub every_at : (ns : Nodes) (k : Position) (t : State) → Seen false m fair start (then_ ns k) t → EachAt E m ns k t → EveryAct R ns k
+      pub every_at : (ns : Nodes) (k : Position) (t : AllPaths) → Seen false m fair start (then_ ns k) t → EachAt E m ns k t → EveryAct R ns k
       every_at no_nodes k t s e = tt
       every_at (more_nodes n rest) k t s e = (in_at n rest k t s e.0, every_at rest k _ ((node_seen false m fair start n rest k t s).on) e.1)
 
-      in_at : (n : Node) (rest : Nodes) (k : Position) (t : State) → Seen false m fair start (then_ (more_nodes n rest) k) t → EachAtIn E m n rest k t → EveryActIn R n rest k
+      in_at : (n : Node) (rest : Nodes) (k : Position) (t : AllPaths) → Seen false m fair start (then_ (more_nodes n rest) k) t → EachAtIn E m n rest k t → EveryActIn R n rest k
       in_at (plain p a) rest k t s e = shows p a t (then_ (more_nodes (plain p a) rest) k) refl s e
       in_at (if_ p x one other) rest k t s e =
           let n = if_ p x one other in (
@@ -114,23 +114,23 @@ module _ (f g : Act → Bool) (X : Type 0) (found : (a : Act) → f a ≡ true �
     in_finds (ret p x) e h = absurd (let x : false ≡ true = e in cc)
 
 -- marks that agree on the acts of code
-module _ (m m' : Mark) (f : Act → Bool) (agree : (a : Act) → f a ≡ false → (v : Bool) → m' a v ≡ m a v) (E E' : Act → State → Position → Type 0) (tells : (a : Act) (t : State) (k : Position) → E a t k → E' a t k) where
+module _ (m m' : Mark) (f : Act → Bool) (agree : (a : Act) → f a ≡ false → (v : Bool) → m' a v ≡ m a v) (E E' : Act → AllPaths → Position → Type 0) (tells : (a : Act) (t : AllPaths) (k : Position) → E a t k → E' a t k) where
   mutual
-    pub at_agree : (ns : Nodes) (k : Position) (t : State) → some_act f ns ≡ false → EachAt E m ns k t → EachAt E' m' ns k t
+    pub at_agree : (ns : Nodes) (k : Position) (t : AllPaths) → some_act f ns ≡ false → EachAt E m ns k t → EachAt E' m' ns k t
     at_agree no_nodes k t e h = tt
     at_agree (more_nodes n rest) k t e h =
         let q = or_parts (some_in f n) (some_act f rest) e in
         (in_at_agree n rest k t q.0 h.0, subst (λ (o : Ways). EachAt E' m' rest k o.on) (sym (node_agree m m' f agree n q.0 t)) (at_agree rest k _ q.1 h.1))
 
-    in_at_agree : (n : Node) (rest : Nodes) (k : Position) (t : State) → some_in f n ≡ false → EachAtIn E m n rest k t → EachAtIn E' m' n rest k t
+    in_at_agree : (n : Node) (rest : Nodes) (k : Position) (t : AllPaths) → some_in f n ≡ false → EachAtIn E m n rest k t → EachAtIn E' m' n rest k t
     in_at_agree (plain p a) rest k t e h = tells a t _ h
     in_at_agree (if_ p x one other) rest k t e h = let q = or_parts (some_act f one) (some_act f other) e in (at_agree one _ t q.0 h.0, at_agree other _ t q.1 h.1)
     in_at_agree (loop p body latch) rest k t e h =
         let q = or_parts (some_act f body) (some_act f latch) e in
         let g : flow m body ≡ flow m' body = λ i u. sym (flow_agree m m' f agree body q.0 u) i in
         let j : flow m latch ≡ flow m' latch = λ i u. sym (flow_agree m m' f agree latch q.1 u) i in (
-          subst (λ (u : State). EachAt E' m' body (in_body body latch (then_ rest k)) u) (λ i. head_of (g i) (j i) t) (at_agree body _ _ q.0 h.0),
-          subst (λ (u : State). EachAt E' m' latch (in_latch body latch (then_ rest k)) u) (λ i. end_state (g i (head_of (g i) (j i) t))) (at_agree latch _ _ q.1 h.1),
+          subst (λ (u : AllPaths). EachAt E' m' body (in_body body latch (then_ rest k)) u) (λ i. head_of (g i) (j i) t) (at_agree body _ _ q.0 h.0),
+          subst (λ (u : AllPaths). EachAt E' m' latch (in_latch body latch (then_ rest k)) u) (λ i. end_state (g i (head_of (g i) (j i) t))) (at_agree latch _ _ q.1 h.1),
         )
     in_at_agree (break_ p) rest k t e h = tt
     in_at_agree (next_ p) rest k t e h = tt

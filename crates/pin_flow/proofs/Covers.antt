@@ -6,7 +6,7 @@ use Rattle.struct_ir.specs.Nodes.{Place, Act, Nodes, places_of}
 use Rattle.struct_ir.specs.Flow.{entry}
 use Rattle.struct_ir.specs.Structured.{done, then_, structured}
 use Rattle.struct_ir.specs.Pins.{Among, Available}
-use Rattle.pin_flow.specs.Marks.{answer, State, unreached, good, bad, state_of, Each, EveryAct}
+use Rattle.pin_flow.specs.Marks.{answer, AllPaths, unreached, good, bad, state_of, Each, EveryAct}
 use Rattle.pin_flow.specs.Looks.{act_looks, Covered, Uses}
 use Rattle.pin_flow.specs.Held.{held, fresh, IsDue}
 use Rattle.pin_flow.specs.Live.{is_slot}
@@ -19,10 +19,10 @@ use Rattle.pin_flow.proofs.Fresh.{fresh_answer, held_answer, fresh_fair, held_fa
 use Rattle.pin_flow.proofs.Live.{slot_is}
 
 -- an access of the slot and register is all right in the state
-abbrev pub Serves : (slot b : ℕ) → Act → State → Type 0
+abbrev pub Serves : (slot b : ℕ) → Act → AllPaths → Type 0
 Serves slot b a t = Uses slot b a → t ≢ bad
 
-pub serves_down : (slot b : ℕ) (a : Act) (t u : State) → rank t ≤ rank u → Serves slot b a u → Serves slot b a t
+pub serves_down : (slot b : ℕ) (a : Act) (t u : AllPaths) → rank t ≤ rank u → Serves slot b a u → Serves slot b a t
 serves_down slot b a unreached u le s i = λ e. absurd cc
 serves_down slot b a good u le s i = λ e. absurd cc
 serves_down slot b a bad unreached le s i = absurd (omega arith)
@@ -58,8 +58,8 @@ not_bad_yes false h = absurd (h refl)
 pub act_own : (slot_of : ℕ → ℕ) (ns : Nodes) → IsOwn slot_of ns → (w : List Rattle.struct_ir.specs.Structured.Position) (k : Rattle.struct_ir.specs.Structured.Position)
     → Rattle.struct_ir.specs.Flow.Path structured (then_ ns done) w k → (p : ℕ) (a : Act) → Rattle.struct_ir.specs.Structured.here k ≡ Rattle.struct_ir.specs.Flow.does p a → own slot_of a ≡ true
 act_own slot_of ns o w k path p a here =
-    let all : Act → State → Type 0 = λ a t. Unit {0} in
-    let Owns : Act → State → Type 0 = λ a t. own slot_of a ≡ true in
+    let all : Act → AllPaths → Type 0 = λ a t. Unit {0} in
+    let Owns : Act → AllPaths → Type 0 = λ a t. own slot_of a ≡ true in
     let owns : Each Owns (held 0) ns bad = each_weaker (held 0) all Owns (λ a. not (own slot_of a)) (λ a t e q. not-false _ e) ns o bad (each_always (held 0) all (λ a t. tt) ns bad) in
     each_holds Owns (held 0) (held_fair 0) (λ a t u le q. q) ns owns w k path p a here
 

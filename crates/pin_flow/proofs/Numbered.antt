@@ -3,7 +3,7 @@ use Rattle.std.proofs.Common.{◌≡◌, ℕ, suc, ◌+◌, ◌≤◌, List, [],
 use Rattle.std.specs.Prelude.{not}
 use Rattle.struct_ir.specs.Nodes.{Act, Node, plain, if_, loop, break_, next_, ret, Nodes, no_nodes, more_nodes}
 use Rattle.struct_ir.specs.Structured.{node_size, row_size}
-use Rattle.pin_flow.specs.Marks.{Mark, State, bad, at, Ways, either, round_of, head_of, end_state, flow, flow_node, Each, EachIn}
+use Rattle.pin_flow.specs.Marks.{Mark, AllPaths, bad, at, Ways, either, round_of, head_of, end_state, flow, flow_node, Each, EachIn}
 use Rattle.pin_flow.specs.Looks.{act_looks, act_assigns, some_act, some_in, loops_assign, loop_in_assigns}
 use Rattle.pin_flow.specs.Held.{held, IsDue, HoistedThroughout}
 use Rattle.pin_flow.specs.Live.{Live, lives, live, live_node}
@@ -49,11 +49,11 @@ module _ (m : Mark) where
   mutual
     unfolding flow
 
-    pub flow_numbered : (i : ℕ) (ns : Nodes) (t : State) → flow m (numbered i ns) t ≡ flow m ns t
+    pub flow_numbered : (i : ℕ) (ns : Nodes) (t : AllPaths) → flow m (numbered i ns) t ≡ flow m ns t
     flow_numbered i no_nodes t = refl
     flow_numbered i (more_nodes n rest) t = also_same m n (numbered_in i n) rest (numbered (i + node_size n) rest) t (node_numbered i n t) (flow_numbered (i + node_size n) rest (flow_node m n t).on)
 
-    pub node_numbered : (i : ℕ) (n : Node) (t : State) → flow_node m (numbered_in i n) t ≡ flow_node m n t
+    pub node_numbered : (i : ℕ) (n : Node) (t : AllPaths) → flow_node m (numbered_in i n) t ≡ flow_node m n t
     node_numbered i (plain p a) t = refl
     node_numbered i (if_ p x one other) t = λ j. either (flow_numbered (suc i) one t j) (flow_numbered (suc i + row_size one) other t j)
     node_numbered i (loop p body latch) t =
@@ -64,24 +64,24 @@ module _ (m : Mark) where
     node_numbered i (next_ p) t = refl
     node_numbered i (ret p x) t = refl
 
-  module _ (Q : Act → State → Type 0) where
+  module _ (Q : Act → AllPaths → Type 0) where
     mutual
-      pub each_numbered : (i : ℕ) (ns : Nodes) (t : State) → Each Q m ns t → Each Q m (numbered i ns) t
+      pub each_numbered : (i : ℕ) (ns : Nodes) (t : AllPaths) → Each Q m ns t → Each Q m (numbered i ns) t
       each_numbered i no_nodes t e = tt
       each_numbered i (more_nodes n rest) t e = (
         in_numbered i n t e.0,
         subst (λ (o : Ways). Each Q m (numbered (i + node_size n) rest) o.on) (sym (node_numbered i n t)) (each_numbered (i + node_size n) rest _ e.1),
       )
 
-      in_numbered : (i : ℕ) (n : Node) (t : State) → EachIn Q m n t → EachIn Q m (numbered_in i n) t
+      in_numbered : (i : ℕ) (n : Node) (t : AllPaths) → EachIn Q m n t → EachIn Q m (numbered_in i n) t
       in_numbered i (plain p a) t e = e
       in_numbered i (if_ p x one other) t e = (each_numbered (suc i) one t e.0, each_numbered (suc i + row_size one) other t e.1)
       in_numbered i (loop p body latch) t e =
           let k = suc i + row_size body in
           let f : flow m body ≡ flow m (numbered (suc i) body) = λ j u. sym (flow_numbered (suc i) body u) j in
           let g : flow m latch ≡ flow m (numbered k latch) = λ j u. sym (flow_numbered k latch u) j in (
-            subst (λ (u : State). Each Q m (numbered (suc i) body) u) (λ j. head_of (f j) (g j) t) (each_numbered (suc i) body _ e.0),
-            subst (λ (u : State). Each Q m (numbered k latch) u) (λ j. end_state (f j (head_of (f j) (g j) t))) (each_numbered k latch _ e.1),
+            subst (λ (u : AllPaths). Each Q m (numbered (suc i) body) u) (λ j. head_of (f j) (g j) t) (each_numbered (suc i) body _ e.0),
+            subst (λ (u : AllPaths). Each Q m (numbered k latch) u) (λ j. end_state (f j (head_of (f j) (g j) t))) (each_numbered k latch _ e.1),
           )
       in_numbered i (break_ p) t e = tt
       in_numbered i (next_ p) t e = tt

@@ -2,14 +2,14 @@
 use Rattle.std.proofs.Common.{◌≡◌, ℕ, ◌≤◌, Bool, true, false, refl, ap, arith}
 use Rattle.std.specs.Prelude.{max}
 use Rattle.struct_ir.specs.Nodes.{Node, plain, if_, loop, break_, next_, ret, Nodes, no_nodes, more_nodes}
-use Rattle.pin_flow.specs.Marks.{Mark, IsFair, State, unreached, good, bad, join, state_of, after, Ways, at, either, in_turn, end_state, turned, round_of, head_of, flow, flow_node}
+use Rattle.pin_flow.specs.Marks.{Mark, IsFair, AllPaths, unreached, good, bad, join, state_of, after, Ways, at, either, in_turn, end_state, turned, round_of, head_of, flow, flow_node}
 
-abbrev pub rank : State → ℕ
+abbrev pub rank : AllPaths → ℕ
 rank unreached = 0
 rank good = 1
 rank bad = 2
 
-pub rank_join : (t u : State) → rank (join t u) ≡ max (rank t) (rank u)
+pub rank_join : (t u : AllPaths) → rank (join t u) ≡ max (rank t) (rank u)
 rank_join unreached u = omega arith
 rank_join good unreached = omega arith
 rank_join good good = omega arith
@@ -18,7 +18,7 @@ rank_join bad unreached = omega arith
 rank_join bad good = omega arith
 rank_join bad bad = omega arith
 
-pub low : (t : State) → rank t ≤ 2
+pub low : (t : AllPaths) → rank t ≤ 2
 low unreached = omega arith
 low good = omega arith
 low bad = omega arith
@@ -34,7 +34,7 @@ of_mono true false h = absurd (let e : false ≡ true = h refl in cc)
 of_mono false true h = omega arith
 of_mono false false h = omega arith
 
-pub after_mono : (f : Bool → Bool) → (f false ≡ true → f true ≡ true) → (t u : State) → rank t ≤ rank u → rank (after f t) ≤ rank (after f u)
+pub after_mono : (f : Bool → Bool) → (f false ≡ true → f true ≡ true) → (t u : AllPaths) → rank t ≤ rank u → rank (after f t) ≤ rank (after f u)
 after_mono f h unreached u le = omega arith
 after_mono f h good unreached le = absurd (omega arith)
 after_mono f h good good le = omega arith
@@ -43,7 +43,7 @@ after_mono f h bad unreached le = absurd (omega arith)
 after_mono f h bad good le = absurd (omega arith)
 after_mono f h bad bad le = omega arith
 
-pub join_mono : (t u t' u' : State) → rank t ≤ rank t' → rank u ≤ rank u' → rank (join t u) ≤ rank (join t' u')
+pub join_mono : (t u t' u' : AllPaths) → rank t ≤ rank t' → rank u ≤ rank u' → rank (join t u) ≤ rank (join t' u')
 join_mono t u t' u' h g = omega (arith, rank_join t u, rank_join t' u')
 
 pub either_mono : (o p o' p' : Ways) → Below o o' → Below p p' → Below (either o p) (either o' p')
@@ -55,20 +55,20 @@ in_turn_mono o p o' p' b c = record { on = c.on; broken = join_mono _ _ _ _ b.br
 pub turned_mono : (o p o' p' : Ways) → Below o o' → Below p p' → Below (turned o p) (turned o' p')
 turned_mono o p o' p' b c = record { on = join_mono _ _ _ _ c.on c.next; broken = join_mono _ _ _ _ b.broken c.broken; next = omega arith }
 
-abbrev pub IsMono : (State → Ways) → Type 0
-IsMono f = (t u : State) → rank t ≤ rank u → Below (f t) (f u)
+abbrev pub IsMono : (AllPaths → Ways) → Type 0
+IsMono f = (t u : AllPaths) → rank t ≤ rank u → Below (f t) (f u)
 
-pub at_mono : (t u : State) → rank t ≤ rank u → Below (at t) (at u)
+pub at_mono : (t u : AllPaths) → rank t ≤ rank u → Below (at t) (at u)
 at_mono t u h = record { on = h; broken = omega arith; next = omega arith }
 
 pub end_mono : (o o' : Ways) → Below o o' → rank (end_state o) ≤ rank (end_state o')
 end_mono o o' b = join_mono _ _ _ _ b.on b.next
 
-pub round_mono : (f g : State → Ways) → IsMono f → IsMono g → IsMono (round_of f g)
+pub round_mono : (f g : AllPaths → Ways) → IsMono f → IsMono g → IsMono (round_of f g)
 unfolding round_of
 round_mono f g mf mg t u h = turned_mono _ _ _ _ (mf t u h) (mg _ _ (end_mono _ _ (mf t u h)))
 
-pub head_mono : (f g : State → Ways) → IsMono f → IsMono g → (t u : State) → rank t ≤ rank u → rank (head_of f g t) ≤ rank (head_of f g u)
+pub head_mono : (f g : AllPaths → Ways) → IsMono f → IsMono g → (t u : AllPaths) → rank t ≤ rank u → rank (head_of f g t) ≤ rank (head_of f g u)
 unfolding head_of
 head_mono f g mf mg t u h = join_mono _ _ _ _ h ((round_mono f g mf mg t u h).on)
 
@@ -92,7 +92,7 @@ mutual
 
 -- ---- one round is enough
 
-round_idle : (f g : State → Ways) → f unreached ≡ at unreached → g unreached ≡ at unreached → round_of f g unreached ≡ at unreached
+round_idle : (f g : AllPaths → Ways) → f unreached ≡ at unreached → g unreached ≡ at unreached → round_of f g unreached ≡ at unreached
 unfolding round_of
 round_idle f g e e' = rw (e, e') refl
 
@@ -102,7 +102,7 @@ unfolding head_of
 loop_idle m body latch e e' = let r = round_idle (flow m body) (flow m latch) e e' in rw (r, r) refl
 
 -- a state, and what one round makes of it: a round more makes no more of it
-by_state : (f : State → State) → f unreached ≡ unreached → (t : State) → rank (f (join t (f t))) ≤ rank (join t (f t))
+by_state : (f : AllPaths → AllPaths) → f unreached ≡ unreached → (t : AllPaths) → rank (f (join t (f t))) ≤ rank (join t (f t))
 by_state f e unreached = rw (e, e) (omega arith)
 by_state f e good = elim (f good) as (λ x. f good ≡ x → rank (f (join good x)) ≤ rank (join good x)) [
   | unreached ↦ (λ h. rw h (omega arith))
@@ -111,11 +111,11 @@ by_state f e good = elim (f good) as (λ x. f good ≡ x → rank (f (join good 
 ] refl
 by_state f e bad = low (f bad)
 
-pub head_closed : (f g : State → Ways) → f unreached ≡ at unreached → g unreached ≡ at unreached → (t : State) → rank (round_of f g (head_of f g t)).on ≤ rank (head_of f g t)
+pub head_closed : (f g : AllPaths → Ways) → f unreached ≡ at unreached → g unreached ≡ at unreached → (t : AllPaths) → rank (round_of f g (head_of f g t)).on ≤ rank (head_of f g t)
 unfolding head_of
 head_closed f g e e' t = by_state (λ t. (round_of f g t).on) (ap (λ (o : Ways). o.on) (round_idle f g e e')) t
 
-pub head_covers : (f g : State → Ways) (t : State) → rank t ≤ rank (head_of f g t)
+pub head_covers : (f g : AllPaths → Ways) (t : AllPaths) → rank t ≤ rank (head_of f g t)
 unfolding head_of
 head_covers f g t = omega (arith, rank_join t (round_of f g t).on)
 

@@ -3,17 +3,17 @@ use Rattle.std.proofs.Common.{◌≡◌, ℕ, List, ◌∷◌, Bool, true, false
 use Rattle.struct_ir.specs.Nodes.{Act, Node, plain, if_, loop, break_, next_, ret, Nodes, no_nodes, more_nodes}
 use Rattle.struct_ir.specs.Flow.{Here, does, Stays, Path, on}
 use Rattle.struct_ir.specs.Structured.{Position, then_, in_body, in_latch, out_of, end_of, here, next, structured}
-use Rattle.pin_flow.specs.Marks.{Mark, IsFair, marked, answer_from, State, unreached, good, bad, join, state_of, after, Ways, at, either, in_turn, end_state, round_of, head_of, flow, flow_node, Each, EachIn, EveryAct, EveryActIn}
+use Rattle.pin_flow.specs.Marks.{Mark, IsFair, marked, answer_from, AllPaths, unreached, good, bad, join, state_of, after, Ways, at, either, in_turn, end_state, round_of, head_of, flow, flow_node, Each, EachIn, EveryAct, EveryActIn}
 use Rattle.pin_flow.proofs.Sound.{after_same}
 
 module _ (v : Bool) (m : Mark) (fair : IsFair m) (start : Position) where
   -- a path comes to k, and where the state is bad, one that says no
-  abbrev pub Seen : Position → State → Type 0
+  abbrev pub Seen : Position → AllPaths → Type 0
   Seen k unreached = Unit {0}
   Seen k good = (w : List Position) × Path structured start w k
   Seen k bad = (w : List Position) × Path structured start w k × (answer_from structured m v w ≡ false)
 
-  seen_join : (k : Position) (t u : State) → Seen k t → Seen k u → Seen k (join t u)
+  seen_join : (k : Position) (t u : AllPaths) → Seen k t → Seen k u → Seen k (join t u)
   seen_join k unreached u a b = b
   seen_join k good unreached a b = a
   seen_join k good good a b = a
@@ -31,7 +31,7 @@ module _ (v : Bool) (m : Mark) (fair : IsFair m) (start : Position) where
   no_too f h e true = e
   no_too f h e false = elim (f false) as (λ x. f false ≡ x → x ≡ false) [ true ↦ (λ g. absurd (let t = h g in cc)) | false ↦ (λ g. refl) ] refl
 
-  seen_next : (k : Position) (c : Bool) → Stays (here k) → (t : State) → Seen k t → Seen (next k c) (after (marked m (here k)) t)
+  seen_next : (k : Position) (c : Bool) → Stays (here k) → (t : AllPaths) → Seen k t → Seen (next k c) (after (marked m (here k)) t)
   seen_next k c st unreached s = tt
   seen_next k c st good s =
       let f = marked m (here k) in
@@ -49,15 +49,15 @@ module _ (v : Bool) (m : Mark) (fair : IsFair m) (start : Position) where
       ] refl
 
   -- where nothing is done
-  pub seen_on : (k : Position) (c : Bool) → Stays (here k) → ((x : Bool) → marked m (here k) x ≡ x) → (t : State) → Seen k t → Seen (next k c) t
-  seen_on k c st e t s = subst (λ (u : State). Seen (next k c) u) ((λ i. after (λ x. e x i) t) ∙ after_same t) (seen_next k c st t s)
+  pub seen_on : (k : Position) (c : Bool) → Stays (here k) → ((x : Bool) → marked m (here k) x ≡ x) → (t : AllPaths) → Seen k t → Seen (next k c) t
+  seen_on k c st e t s = subst (λ (u : AllPaths). Seen (next k c) u) ((λ i. after (λ x. e x i) t) ∙ after_same t) (seen_next k c st t s)
 
   pub record Out (k : Position) (o : Ways) : Type 0 where
     pub on : Seen k o.on
     pub broken : Seen (out_of k) o.broken
     pub next : Seen (end_of k) o.next
 
-  out_at : (k : Position) (t : State) → Seen k t → Out k (at t)
+  out_at : (k : Position) (t : AllPaths) → Seen k t → Out k (at t)
   out_at k t s = record { on = s; broken = tt; next = tt }
 
   out_either : (k : Position) (o o' : Ways) → Out k o → Out k o' → Out k (either o o')
@@ -67,25 +67,25 @@ module _ (v : Bool) (m : Mark) (fair : IsFair m) (start : Position) where
   out_turn rest k o o' a b = record { on = b.on; broken = seen_join _ _ _ a.broken b.broken; next = seen_join _ _ _ a.next b.next }
 
   -- the start of each round, the end of the body, and behind the loop
-  pub record Loops (body latch : Nodes) (k : Position) (t : State) : Type 0 where
+  pub record Loops (body latch : Nodes) (k : Position) (t : AllPaths) : Type 0 where
     pub head : Seen (then_ body (in_body body latch k)) (head_of (flow m body) (flow m latch) t)
     pub end : Seen (then_ latch (in_latch body latch k)) (end_state (flow m body (head_of (flow m body) (flow m latch) t)))
     pub broken : Seen k (round_of (flow m body) (flow m latch) (head_of (flow m body) (flow m latch) t)).broken
 
-  module _ (body latch : Nodes) (k : Position) (of_body : (t : State) → Seen (then_ body (in_body body latch k)) t → Out (in_body body latch k) (flow m body t))
-      (of_turn : (t : State) → Seen (then_ latch (in_latch body latch k)) t → Out (in_latch body latch k) (flow m latch t)) where
-    end_seen : (t : State) → Seen (then_ body (in_body body latch k)) t → Seen (then_ latch (in_latch body latch k)) (end_state (flow m body t))
+  module _ (body latch : Nodes) (k : Position) (of_body : (t : AllPaths) → Seen (then_ body (in_body body latch k)) t → Out (in_body body latch k) (flow m body t))
+      (of_turn : (t : AllPaths) → Seen (then_ latch (in_latch body latch k)) t → Out (in_latch body latch k) (flow m latch t)) where
+    end_seen : (t : AllPaths) → Seen (then_ body (in_body body latch k)) t → Seen (then_ latch (in_latch body latch k)) (end_state (flow m body t))
     end_seen t s =
         let o = of_body t s in
         seen_on (in_body body latch k) true tt (λ x. refl) _ (seen_join _ _ _ o.on o.next)
 
-    again_seen : (t : State) → Seen (then_ body (in_body body latch k)) t → Seen (then_ body (in_body body latch k)) (round_of (flow m body) (flow m latch) t).on
+    again_seen : (t : AllPaths) → Seen (then_ body (in_body body latch k)) t → Seen (then_ body (in_body body latch k)) (round_of (flow m body) (flow m latch) t).on
     unfolding round_of
     again_seen t s =
         let o = of_turn _ (end_seen t s) in
         seen_on (in_latch body latch k) true tt (λ x. refl) _ (seen_join _ _ _ o.on o.next)
 
-    pub loop_seen : (t : State) → Seen (then_ body (in_body body latch k)) t → Loops body latch k t
+    pub loop_seen : (t : AllPaths) → Seen (then_ body (in_body body latch k)) t → Loops body latch k t
     unfolding round_of head_of
     loop_seen t s =
         let h = seen_join _ t _ s (again_seen t s) in
@@ -95,11 +95,11 @@ module _ (v : Bool) (m : Mark) (fair : IsFair m) (start : Position) where
   mutual
     unfolding flow
 
-    pub row_seen : (ns : Nodes) (k : Position) (t : State) → Seen (then_ ns k) t → Out k (flow m ns t)
+    pub row_seen : (ns : Nodes) (k : Position) (t : AllPaths) → Seen (then_ ns k) t → Out k (flow m ns t)
     row_seen no_nodes k t s = out_at k t (seen_on (then_ no_nodes k) true tt (λ x. refl) t s)
     row_seen (more_nodes n rest) k t s = let a = node_seen n rest k t s in out_turn rest k _ _ a (row_seen rest k _ a.on)
 
-    pub node_seen : (n : Node) (rest : Nodes) (k : Position) (t : State) → Seen (then_ (more_nodes n rest) k) t → Out (then_ rest k) (flow_node m n t)
+    pub node_seen : (n : Node) (rest : Nodes) (k : Position) (t : AllPaths) → Seen (then_ (more_nodes n rest) k) t → Out (then_ rest k) (flow_node m n t)
     node_seen (plain p a) rest k t s = out_at (then_ rest k) _ (seen_next (then_ (more_nodes (plain p a) rest) k) true tt t s)
     node_seen (if_ p x one other) rest k t s =
         let n = if_ p x one other in
@@ -112,13 +112,13 @@ module _ (v : Bool) (m : Mark) (fair : IsFair m) (start : Position) where
     node_seen (ret p x) rest k t s = out_at (then_ rest k) unreached tt
 
   -- with what their acts' states say, R is shown of each act; Q is what is known of them
-  module _ (Q : Act → State → Type 0) (R : Act → Position → Type 0) (shows : (p : ℕ) (a : Act) (t : State) (k : Position) → here k ≡ does p a → Seen k t → Q a t → R a k) where
+  module _ (Q : Act → AllPaths → Type 0) (R : Act → Position → Type 0) (shows : (p : ℕ) (a : Act) (t : AllPaths) (k : Position) → here k ≡ does p a → Seen k t → Q a t → R a k) where
     mutual
-      pub every_shown : (ns : Nodes) (k : Position) (t : State) → Seen (then_ ns k) t → Each Q m ns t → EveryAct R ns k
+      pub every_shown : (ns : Nodes) (k : Position) (t : AllPaths) → Seen (then_ ns k) t → Each Q m ns t → EveryAct R ns k
       every_shown no_nodes k t s e = tt
       every_shown (more_nodes n rest) k t s e = (in_shown n rest k t s e.0, every_shown rest k _ ((node_seen n rest k t s).on) e.1)
 
-      in_shown : (n : Node) (rest : Nodes) (k : Position) (t : State) → Seen (then_ (more_nodes n rest) k) t → EachIn Q m n t → EveryActIn R n rest k
+      in_shown : (n : Node) (rest : Nodes) (k : Position) (t : AllPaths) → Seen (then_ (more_nodes n rest) k) t → EachIn Q m n t → EveryActIn R n rest k
       in_shown (plain p a) rest k t s e = shows p a t (then_ (more_nodes (plain p a) rest) k) refl s e
       in_shown (if_ p x one other) rest k t s e =
           let n = if_ p x one other in (
@@ -133,13 +133,13 @@ module _ (v : Bool) (m : Mark) (fair : IsFair m) (start : Position) where
       in_shown (ret p x) rest k t s e = tt
 
   -- what every seen act has, each has with its state
-  module _ (Q : Act → State → Type 0) (has : (p : ℕ) (a : Act) (t : State) (k : Position) → here k ≡ does p a → Seen k t → Q a t) where
+  module _ (Q : Act → AllPaths → Type 0) (has : (p : ℕ) (a : Act) (t : AllPaths) (k : Position) → here k ≡ does p a → Seen k t → Q a t) where
     mutual
-      pub each_seen : (ns : Nodes) (k : Position) (t : State) → Seen (then_ ns k) t → Each Q m ns t
+      pub each_seen : (ns : Nodes) (k : Position) (t : AllPaths) → Seen (then_ ns k) t → Each Q m ns t
       each_seen no_nodes k t s = tt
       each_seen (more_nodes n rest) k t s = (in_seen n rest k t s, each_seen rest k _ ((node_seen n rest k t s).on))
 
-      in_seen : (n : Node) (rest : Nodes) (k : Position) (t : State) → Seen (then_ (more_nodes n rest) k) t → EachIn Q m n t
+      in_seen : (n : Node) (rest : Nodes) (k : Position) (t : AllPaths) → Seen (then_ (more_nodes n rest) k) t → EachIn Q m n t
       in_seen (plain p a) rest k t s = has p a t (then_ (more_nodes (plain p a) rest) k) refl s
       in_seen (if_ p x one other) rest k t s =
           let n = if_ p x one other in (

@@ -3,7 +3,7 @@ use Rattle.std.proofs.Common.{◌≡◌, ℕ, Bool, true, false, ◌||◌, refl,
 use Rattle.struct_ir.specs.Nodes.{Act, Node, plain, if_, loop, break_, next_, ret, Nodes, no_nodes, more_nodes}
 use Rattle.struct_ir.specs.Lists.{bare_act}
 use Rattle.struct_ir.specs.Erased.{is_kept, put, erased}
-use Rattle.pin_flow.specs.Marks.{Mark, State, unreached, after, at, Ways, in_turn, round_of, head_of, end_state, flow, flow_node, Each, EachIn}
+use Rattle.pin_flow.specs.Marks.{Mark, AllPaths, unreached, after, at, Ways, in_turn, round_of, head_of, end_state, flow, flow_node, Each, EachIn}
 use Rattle.pin_flow.specs.Looks.{act_looks, act_assigns, some_act, some_in, loops_assign}
 use Rattle.pin_flow.proofs.Sound.{after_same}
 
@@ -35,7 +35,7 @@ by_bool P true f g = f refl
 by_bool P false f g = g refl
 
 -- nodes that go alike, and rows behind them that do
-pub also_same : (m : Mark) (n n' : Node) (rest rest' : Nodes) (t : State) → flow_node m n' t ≡ flow_node m n t → flow m rest' (flow_node m n t).on ≡ flow m rest (flow_node m n t).on
+pub also_same : (m : Mark) (n n' : Node) (rest rest' : Nodes) (t : AllPaths) → flow_node m n' t ≡ flow_node m n t → flow m rest' (flow_node m n t).on ≡ flow m rest (flow_node m n t).on
     → flow m (more_nodes n' rest') t ≡ flow m (more_nodes n rest) t
 unfolding flow
 also_same m n n' rest rest' t e g = ap (λ (o : Ways). in_turn o (flow m rest' o.on)) e ∙ ap (λ (o : Ways). in_turn (flow_node m n t) o) g
@@ -88,13 +88,13 @@ module _ (keep : Act → Bool) where
 
   -- a mark that none of them changes
   module _ (m : Mark) (idle : (a : Act) → keep a ≡ false → (v : Bool) → m a v ≡ v) where
-    pub idle_after : (a : Act) → keep a ≡ false → (t : State) → after (m a) t ≡ t
+    pub idle_after : (a : Act) → keep a ≡ false → (t : AllPaths) → after (m a) t ≡ t
     idle_after a e t = (λ i. after (λ v. idle a e v i) t) ∙ after_same t
 
     mutual
       unfolding flow
 
-      pub flow_sifted : (ns : Nodes) (t : State) → flow m (sifted keep ns) t ≡ flow m ns t
+      pub flow_sifted : (ns : Nodes) (t : AllPaths) → flow m (sifted keep ns) t ≡ flow m ns t
       flow_sifted no_nodes t = refl
       flow_sifted (more_nodes (plain p a) rest) t =
           by_bool (λ x. flow m (put x (plain p a) (sifted keep rest)) t ≡ flow m (more_nodes (plain p a) rest) t) (keep a)
@@ -106,7 +106,7 @@ module _ (keep : Act → Bool) where
       flow_sifted (more_nodes (next_ p) rest) t = rw (flow_sifted rest unreached) refl
       flow_sifted (more_nodes (ret p x) rest) t = rw (flow_sifted rest unreached) refl
 
-      pub node_same : (n : Node) (t : State) → flow_node m (node_sifted keep n) t ≡ flow_node m n t
+      pub node_same : (n : Node) (t : AllPaths) → flow_node m (node_sifted keep n) t ≡ flow_node m n t
       node_same (plain p a) t = refl
       node_same (if_ p x one other) t = rw (flow_sifted one t, flow_sifted other t) refl
       node_same (loop p body latch) t =
@@ -117,60 +117,60 @@ module _ (keep : Act → Bool) where
       node_same (next_ p) t = refl
       node_same (ret p x) t = refl
 
-    module _ (Q : Act → State → Type 0) where
+    module _ (Q : Act → AllPaths → Type 0) where
       mutual
         unfolding flow
 
-        pub each_sifted : (ns : Nodes) (t : State) → Each Q m ns t → Each Q m (sifted keep ns) t
+        pub each_sifted : (ns : Nodes) (t : AllPaths) → Each Q m ns t → Each Q m (sifted keep ns) t
         each_sifted no_nodes t e = tt
         each_sifted (more_nodes (plain p a) rest) t e =
             by_bool (λ x. Each Q m (put x (plain p a) (sifted keep rest)) t) (keep a)
             (λ g. (e.0, each_sifted rest _ e.1))
-            (λ g. each_sifted rest t (subst (λ (u : State). Each Q m rest u) (idle_after a g t) e.1))
+            (λ g. each_sifted rest t (subst (λ (u : AllPaths). Each Q m rest u) (idle_after a g t) e.1))
         each_sifted (more_nodes (if_ p x one other) rest) t e = (in_each_sifted (if_ p x one other) t e.0, subst (λ (o : Ways). Each Q m (sifted keep rest) o.on) (sym (node_same (if_ p x one other) t)) (each_sifted rest _ e.1))
         each_sifted (more_nodes (loop p body latch) rest) t e = (in_each_sifted (loop p body latch) t e.0, subst (λ (o : Ways). Each Q m (sifted keep rest) o.on) (sym (node_same (loop p body latch) t)) (each_sifted rest _ e.1))
         each_sifted (more_nodes (break_ p) rest) t e = (tt, each_sifted rest _ e.1)
         each_sifted (more_nodes (next_ p) rest) t e = (tt, each_sifted rest _ e.1)
         each_sifted (more_nodes (ret p x) rest) t e = (tt, each_sifted rest _ e.1)
 
-        in_each_sifted : (n : Node) (t : State) → EachIn Q m n t → EachIn Q m (node_sifted keep n) t
+        in_each_sifted : (n : Node) (t : AllPaths) → EachIn Q m n t → EachIn Q m (node_sifted keep n) t
         in_each_sifted (plain p a) t e = e
         in_each_sifted (if_ p x one other) t e = (each_sifted one t e.0, each_sifted other t e.1)
         in_each_sifted (loop p body latch) t e =
             let f : flow m body ≡ flow m (sifted keep body) = λ i u. sym (flow_sifted body u) i in
             let g : flow m latch ≡ flow m (sifted keep latch) = λ i u. sym (flow_sifted latch u) i in (
-              subst (λ (h : State). Each Q m (sifted keep body) h) (λ i. head_of (f i) (g i) t) (each_sifted body _ e.0),
-              subst (λ (h : State). Each Q m (sifted keep latch) h) (λ i. end_state (f i (head_of (f i) (g i) t))) (each_sifted latch _ e.1),
+              subst (λ (h : AllPaths). Each Q m (sifted keep body) h) (λ i. head_of (f i) (g i) t) (each_sifted body _ e.0),
+              subst (λ (h : AllPaths). Each Q m (sifted keep latch) h) (λ i. end_state (f i (head_of (f i) (g i) t))) (each_sifted latch _ e.1),
             )
         in_each_sifted (break_ p) t e = tt
         in_each_sifted (next_ p) t e = tt
         in_each_sifted (ret p x) t e = tt
 
       -- and back, where Q holds of what is gone
-      module _ (known : (a : Act) → keep a ≡ false → (t : State) → Q a t) where
+      module _ (known : (a : Act) → keep a ≡ false → (t : AllPaths) → Q a t) where
         mutual
           unfolding flow
 
-          pub each_back : (ns : Nodes) (t : State) → Each Q m (sifted keep ns) t → Each Q m ns t
+          pub each_back : (ns : Nodes) (t : AllPaths) → Each Q m (sifted keep ns) t → Each Q m ns t
           each_back no_nodes t e = tt
           each_back (more_nodes (plain p a) rest) t e =
               by_bool (λ x. Each Q m (put x (plain p a) (sifted keep rest)) t → Each Q m (more_nodes (plain p a) rest) t) (keep a)
               (λ g e. (e.0, each_back rest _ e.1))
-              (λ g e. (known a g t, subst (λ (u : State). Each Q m rest u) (sym (idle_after a g t)) (each_back rest t e))) e
+              (λ g e. (known a g t, subst (λ (u : AllPaths). Each Q m rest u) (sym (idle_after a g t)) (each_back rest t e))) e
           each_back (more_nodes (if_ p x one other) rest) t e = (in_each_back (if_ p x one other) t e.0, each_back rest _ (subst (λ (o : Ways). Each Q m (sifted keep rest) o.on) (node_same (if_ p x one other) t) e.1))
           each_back (more_nodes (loop p body latch) rest) t e = (in_each_back (loop p body latch) t e.0, each_back rest _ (subst (λ (o : Ways). Each Q m (sifted keep rest) o.on) (node_same (loop p body latch) t) e.1))
           each_back (more_nodes (break_ p) rest) t e = (tt, each_back rest _ e.1)
           each_back (more_nodes (next_ p) rest) t e = (tt, each_back rest _ e.1)
           each_back (more_nodes (ret p x) rest) t e = (tt, each_back rest _ e.1)
 
-          in_each_back : (n : Node) (t : State) → EachIn Q m (node_sifted keep n) t → EachIn Q m n t
+          in_each_back : (n : Node) (t : AllPaths) → EachIn Q m (node_sifted keep n) t → EachIn Q m n t
           in_each_back (plain p a) t e = e
           in_each_back (if_ p x one other) t e = (each_back one t e.0, each_back other t e.1)
           in_each_back (loop p body latch) t e =
               let f : flow m (sifted keep body) ≡ flow m body = λ i u. flow_sifted body u i in
               let g : flow m (sifted keep latch) ≡ flow m latch = λ i u. flow_sifted latch u i in (
-                each_back body _ (subst (λ (h : State). Each Q m (sifted keep body) h) (λ i. head_of (f i) (g i) t) e.0),
-                each_back latch _ (subst (λ (h : State). Each Q m (sifted keep latch) h) (λ i. end_state (f i (head_of (f i) (g i) t))) e.1),
+                each_back body _ (subst (λ (h : AllPaths). Each Q m (sifted keep body) h) (λ i. head_of (f i) (g i) t) e.0),
+                each_back latch _ (subst (λ (h : AllPaths). Each Q m (sifted keep latch) h) (λ i. end_state (f i (head_of (f i) (g i) t))) e.1),
               )
           in_each_back (break_ p) t e = tt
           in_each_back (next_ p) t e = tt

@@ -2,7 +2,7 @@
 use Rattle.std.specs.Prelude.{◌≡◌, ℕ, true, ◌||◌, ◌&&◌, not, if◌then◌else◌}
 use Rattle.struct_ir.specs.Nodes.{Act, Nodes, list_of}
 use Rattle.struct_ir.specs.Pins.{lacks_if}
-use Rattle.pin_flow.specs.Marks.{Mark, State, bad, Each}
+use Rattle.pin_flow.specs.Marks.{Mark, AllPaths, bad, Each}
 use Rattle.pin_flow.specs.Looks.{act_looks, act_assigns, looks_into, loops_assign}
 
 -- b was looked up, into whichever slot, and not assigned since
@@ -28,7 +28,7 @@ pinned slot b a v = if looks_into slot a then act_looks b a else (not (act_assig
 -- ---- hoisted, told by states
 
 -- where the act is a Look of b, some path that comes there doesn't hold b
-abbrev pub IsDue : (b : ℕ) → Act → State → Type 0
+abbrev pub IsDue : (b : ℕ) → Act → AllPaths → Type 0
 IsDue b a t = act_looks b a ≡ true → t ≡ bad
 
 -- no Look in a loop is of a register that the loop doesn't assign, and each Look is due by the paths that come to it in its own place, also

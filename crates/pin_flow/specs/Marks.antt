@@ -30,13 +30,13 @@ abbrev pub answer : {P : Type 0} → Flow P → Mark → List P → Bool
 answer C m w = answer_from C m false w
 
 -- ---- all paths to a point: none comes there, each says yes, or some says no
-pub data State : Type 0 where
-  unreached : State
-  good : State
-  bad : State
+pub data AllPaths : Type 0 where
+  unreached : AllPaths
+  good : AllPaths
+  bad : AllPaths
 
 -- of two ways that meet: no, where one of them says no
-abbrev pub join : State → State → State
+abbrev pub join : AllPaths → AllPaths → AllPaths
 join unreached u = u
 join good unreached = good
 join good good = good
@@ -44,28 +44,28 @@ join good bad = bad
 join bad u = bad
 
 -- the state where each path has this answer
-abbrev pub state_of : Bool → State
+abbrev pub state_of : Bool → AllPaths
 state_of true = good
 state_of false = bad
 
 -- the state behind an act that changes the answer so
-abbrev pub after : (Bool → Bool) → State → State
+abbrev pub after : (Bool → Bool) → AllPaths → AllPaths
 after f unreached = unreached
 after f good = state_of (f true)
 after f bad = state_of (f false)
 
 -- where control leaves a row of nodes: at its end, by a Break, by a Next
 pub record Ways : Type 0 where
-  pub on : State
-  pub broken : State
-  pub next : State
+  pub on : AllPaths
+  pub broken : AllPaths
+  pub next : AllPaths
 
 -- the three states together
-abbrev pub ways : State → State → State → Ways
+abbrev pub ways : AllPaths → AllPaths → AllPaths → Ways
 ways on broken next = record { on = on; broken = broken; next = next }
 
 -- on at the end, and nowhere else
-abbrev pub at : State → Ways
+abbrev pub at : AllPaths → Ways
 at t = ways t unreached unreached
 
 -- of two branches
@@ -77,7 +77,7 @@ abbrev pub in_turn : Ways → Ways → Ways
 in_turn o o' = ways o'.on (join o.broken o'.broken) (join o.next o'.next)
 
 -- the end of a body, or of a step: by itself or by a Next
-abbrev pub end_state : Ways → State
+abbrev pub end_state : Ways → AllPaths
 end_state o = join o.on o.next
 
 -- a loop's round: o its body, o' its step
@@ -85,19 +85,19 @@ abbrev pub turned : Ways → Ways → Ways
 turned o o' = ways (end_state o') (join o.broken o'.broken) unreached
 
 -- one round of a loop: its body, and then its step from wherever the body leaves to it
-unfoldable pub round_of : (State → Ways) → (State → Ways) → State → Ways
+unfoldable pub round_of : (AllPaths → Ways) → (AllPaths → Ways) → AllPaths → Ways
 round_of body latch t = turned (body t) (latch (end_state (body t)))
 
 -- the start of each round
-unfoldable pub head_of : (State → Ways) → (State → Ways) → State → State
+unfoldable pub head_of : (AllPaths → Ways) → (AllPaths → Ways) → AllPaths → AllPaths
 head_of body latch t = join t (round_of body latch t).on
 
 unfoldable mutual
-  pub flow : Mark → Nodes → State → Ways
+  pub flow : Mark → Nodes → AllPaths → Ways
   flow m no_nodes t = at t
   flow m (more_nodes n rest) t = in_turn (flow_node m n t) (flow m rest (flow_node m n t).on)
 
-  pub flow_node : Mark → Node → State → Ways
+  pub flow_node : Mark → Node → AllPaths → Ways
   flow_node m (plain place a) t = at (after (m a) t)
   flow_node m (if_ place temp one other) t = either (flow m one t) (flow m other t)
   flow_node m (loop place body latch) t = at (round_of (flow m body) (flow m latch) (head_of (flow m body) (flow m latch) t)).broken
@@ -107,11 +107,11 @@ unfoldable mutual
 
 -- Q holds of each act, with the state of its point
 abbrev mutual
-  pub Each : (Act → State → Type 0) → Mark → Nodes → State → Type 0
+  pub Each : (Act → AllPaths → Type 0) → Mark → Nodes → AllPaths → Type 0
   Each Q m no_nodes t = Unit {0}
   Each Q m (more_nodes n rest) t = EachIn Q m n t × Each Q m rest (flow_node m n t).on
 
-  pub EachIn : (Act → State → Type 0) → Mark → Node → State → Type 0
+  pub EachIn : (Act → AllPaths → Type 0) → Mark → Node → AllPaths → Type 0
   EachIn Q m (plain place a) t = Q a t
   EachIn Q m (if_ place temp one other) t = Each Q m one t × Each Q m other t
   EachIn Q m (loop place body latch) t =

@@ -9,14 +9,14 @@ use Rattle.pin_flow.specs.declared.mark.Mark.{Mark as CodeMark}
 use Rattle.pin_flow.specs.declared.mark.Mark.TheVariants as marks
 use Rattle.pin_flow.specs.declared.seen.Test.{Test as CodeTest}
 use Rattle.pin_flow.specs.declared.seen.Test.TheVariants as tests
-use Rattle.pin_flow.specs.Marks.{Mark, State, Ways, unreached, good, bad, ways, after}
+use Rattle.pin_flow.specs.Marks.{Mark, AllPaths, Ways, unreached, good, bad, ways, after}
 use Rattle.pin_flow.specs.Marks as flows
 use Rattle.pin_flow.specs.Held.{held, filled, filled_for, fresh, pinned}
 use Rattle.pin_flow.specs.Looks.{act_looks, act_assigns, looks_into}
 use Rattle.pin_flow.specs.Live.{uses}
 
 -- a state
-abbrev pub state_view : CodeState → State
+abbrev pub state_view : CodeState → AllPaths
 state_view states.Unreached = unreached
 state_view states.Good = good
 state_view states.Bad = bad
@@ -26,7 +26,7 @@ abbrev pub ways_view : CodeWays → Ways
 ways_view o = record { on = state_view o.on; broken = state_view o.broken; next = state_view o.next }
 
 -- whether two states are the same
-abbrev pub is_same : State → State → Bool
+abbrev pub is_same : AllPaths → AllPaths → Bool
 is_same unreached unreached = true
 is_same unreached good = false
 is_same unreached bad = false
@@ -86,7 +86,7 @@ node_marked m (next_ place) v = v
 node_marked m (ret place temp) v = v
 
 -- where a node leads that holds no others
-abbrev pub leaf : Mark → Node → State → Ways
+abbrev pub leaf : Mark → Node → AllPaths → Ways
 leaf m (plain place a) t = flows.at (after (m a) t)
 leaf m (if_ place temp one other) t = flows.at unreached
 leaf m (loop place body latch) t = flows.at unreached

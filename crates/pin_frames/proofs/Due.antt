@@ -3,7 +3,7 @@ use Rattle.std.proofs.Common.{◌≡◌, ℕ, List, Bool, true, false, ◌||◌,
 use Rattle.std.proofs.lemmas.Bool.{and_from, or_right}
 use Rattle.struct_ir.specs.Nodes.{Act, set, call, step, look, safepoint, begin_object, end_object, act_is_call, Node, plain, if_, loop, break_, next_, ret, Nodes, no_nodes, more_nodes}
 use Rattle.struct_ir.specs.Placed.{node_is_call, begins_with_call, is_end, act_is_due, node_is_due, are_due}
-use Rattle.pin_flow.specs.Marks.{State}
+use Rattle.pin_flow.specs.Marks.{AllPaths}
 use Rattle.pin_flow.specs.Live.{Live, body_lives, latch_lives}
 use Rattle.pin_frames.specs.inner.Place.{stop, seated, act_listing, heads, turns, on_states, rest_lives, listed, listed_in}
 
@@ -52,7 +52,7 @@ due_listing behind closing (begin_object j) l rest rest' e g = refl
 due_listing behind closing (end_object j) l rest rest' e g = refl
 
 module _ (slot_of : ℕ → ℕ) (bs : List ℕ) where
-  call_listed : (n : Node) (ts : ℕ → State) (ls : ℕ → Live) → node_is_call (listed_in slot_of bs n ts ls) ≡ node_is_call n
+  call_listed : (n : Node) (ts : ℕ → AllPaths) (ls : ℕ → Live) → node_is_call (listed_in slot_of bs n ts ls) ≡ node_is_call n
   call_listed (plain p a) ts ls = call_listing a _
   call_listed (if_ p x one other) ts ls = refl
   call_listed (loop p body latch) ts ls = refl
@@ -60,16 +60,16 @@ module _ (slot_of : ℕ → ℕ) (bs : List ℕ) where
   call_listed (next_ p) ts ls = refl
   call_listed (ret p x) ts ls = refl
 
-  begins_listed : (ns : Nodes) (ts : ℕ → State) (ls : ℕ → Live) → begins_with_call (listed slot_of bs ns ts ls) ≡ begins_with_call ns
+  begins_listed : (ns : Nodes) (ts : ℕ → AllPaths) (ls : ℕ → Live) → begins_with_call (listed slot_of bs ns ts ls) ≡ begins_with_call ns
   begins_listed no_nodes ts ls = refl
   begins_listed (more_nodes n rest) ts ls = call_listed n ts (rest_lives slot_of rest ls)
 
-  ends_listed : (ns : Nodes) (ts : ℕ → State) (ls : ℕ → Live) → is_end (listed slot_of bs ns ts ls) ≡ is_end ns
+  ends_listed : (ns : Nodes) (ts : ℕ → AllPaths) (ls : ℕ → Live) → is_end (listed slot_of bs ns ts ls) ≡ is_end ns
   ends_listed no_nodes ts ls = refl
   ends_listed (more_nodes n rest) ts ls = refl
 
   mutual
-    pub due_listed : (behind closing : Bool) (ns : Nodes) (ts : ℕ → State) (ls : ℕ → Live) → are_due behind closing (listed slot_of bs ns ts ls) ≡ are_due behind closing ns
+    pub due_listed : (behind closing : Bool) (ns : Nodes) (ts : ℕ → AllPaths) (ls : ℕ → Live) → are_due behind closing (listed slot_of bs ns ts ls) ≡ are_due behind closing ns
     due_listed behind closing no_nodes ts ls = refl
     due_listed behind closing (more_nodes n rest) ts ls =
         let rl = rest_lives slot_of rest ls in
@@ -77,7 +77,7 @@ module _ (slot_of : ℕ → ℕ) (bs : List ℕ) where
         && are_due (call_listed n ts rl i) closing (listed slot_of bs rest (on_states n ts) ls))
         ∙ (λ i. node_is_due behind closing n rest && due_listed (node_is_call n) closing rest (on_states n ts) ls i)
 
-    in_due_listed : (behind closing : Bool) (n : Node) (rest rest' : Nodes) (ts : ℕ → State) (ls : ℕ → Live) → begins_with_call rest' ≡ begins_with_call rest → is_end rest' ≡ is_end rest
+    in_due_listed : (behind closing : Bool) (n : Node) (rest rest' : Nodes) (ts : ℕ → AllPaths) (ls : ℕ → Live) → begins_with_call rest' ≡ begins_with_call rest → is_end rest' ≡ is_end rest
         → node_is_due behind closing (listed_in slot_of bs n ts ls) rest' ≡ node_is_due behind closing n rest
     in_due_listed behind closing (plain p a) rest rest' ts ls e g = due_listing behind closing a _ rest rest' e g
     in_due_listed behind closing (if_ p x one other) rest rest' ts ls e g = λ i. due_listed false false one ts ls i && due_listed false false other ts ls i

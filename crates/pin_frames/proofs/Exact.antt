@@ -5,7 +5,7 @@ use Rattle.std.specs.Prelude.{not}
 use Rattle.struct_ir.specs.Nodes.{Act, set, call, step, look, safepoint, begin_object, end_object, Node, plain, if_, loop, break_, next_, ret, Nodes, no_nodes, more_nodes, may_wait, list_of}
 use Rattle.struct_ir.specs.Structured.{Position, then_, in_body, in_latch}
 use Rattle.struct_ir.specs.Pins.{lacks}
-use Rattle.pin_flow.specs.Marks.{Mark, State, Ways, head_of, end_state, flow, EveryAct, EveryActIn}
+use Rattle.pin_flow.specs.Marks.{Mark, AllPaths, Ways, head_of, end_state, flow, EveryAct, EveryActIn}
 use Rattle.pin_flow.specs.Held.{held}
 use Rattle.pin_flow.specs.Slots.{IsIn, AreApart}
 use Rattle.pin_flow.specs.Live.{uses, Live, lives, live_act, live, head_live, latch_live, body_lives, latch_lives, live_at}
@@ -36,7 +36,7 @@ list_is (end_object i) l list e = absurd cc
 has_more : (s x : ℕ) (list : List ℕ) → lacks s list ≡ false → lacks s (x ∷ list) ≡ false
 has_more s x list e = by_bool (λ y. not (y || Rattle.std.specs.List.list_any (λ z. z == s) list) ≡ false) (x == s) (λ g. refl) (λ g. e)
 
-module _ (slot_of : ℕ → ℕ) (a : Act) (ts : ℕ → State) (later : ℕ → Bool) where
+module _ (slot_of : ℕ → ℕ) (a : Act) (ts : ℕ → AllPaths) (later : ℕ → Bool) where
   list_no : AreApart slot_of → (b : ℕ) → wanted slot_of b a (ts b) (later b) ≡ false → (bs : List ℕ) → lacks (slot_of b) (list_for slot_of bs a ts later) ≡ true
   list_no apart b e [] = refl
   list_no apart b e (c ∷ bs) =
@@ -90,10 +90,10 @@ module _ (slot_of : ℕ → ℕ) (apart : AreApart slot_of) (bs : List ℕ) (b :
   abbrev s : ℕ
   s = slot_of b
 
-  abbrev pub IsListed : Act → State → Position → Type 0
+  abbrev pub IsListed : Act → AllPaths → Position → Type 0
   IsListed a t k = (list : List ℕ) → list_of a ≡ Some list → lacks s list ≡ not (wanted slot_of b a t (live_at s b k).on)
 
-  act_exact : (p : ℕ) (a : Act) (rest : Nodes) (k : Position) (ts : ℕ → State) (ls : ℕ → Live) → ls b ≡ live_at s b (then_ rest k)
+  act_exact : (p : ℕ) (a : Act) (rest : Nodes) (k : Position) (ts : ℕ → AllPaths) (ls : ℕ → Live) → ls b ≡ live_at s b (then_ rest k)
       → let l = list_for slot_of bs a ts (λ b. live_act (slot_of b) b a (ls b).on) in IsListed (act_listing a l) (ts b) (then_ (more_nodes (plain p (act_listing a l)) rest) k)
   unfolding live
   act_exact p a rest k ts ls e =
@@ -108,7 +108,7 @@ module _ (slot_of : ℕ → ℕ) (apart : AreApart slot_of) (bs : List ℕ) (b :
   mutual
     unfolding live
 
-    pub each_exact : (ns : Nodes) (k : Position) (ts : ℕ → State) (ls : ℕ → Live) → ls b ≡ live_at s b k → EachAt IsListed m (listed slot_of bs ns ts ls) k (ts b)
+    pub each_exact : (ns : Nodes) (k : Position) (ts : ℕ → AllPaths) (ls : ℕ → Live) → ls b ≡ live_at s b k → EachAt IsListed m (listed slot_of bs ns ts ls) k (ts b)
     each_exact no_nodes k ts ls e = tt
     each_exact (more_nodes n rest) k ts ls e =
         let rest' = listed slot_of bs rest (on_states n ts) ls in
@@ -119,7 +119,7 @@ module _ (slot_of : ℕ → ℕ) (apart : AreApart slot_of) (bs : List ℕ) (b :
           subst (λ (o : Ways). EachAt IsListed m rest' k o.on) (sym (node_listed slot_of bs m (held_listing b) n ts rl (ts b))) (each_exact rest k (on_states n ts) ls e),
         )
 
-    in_exact : (n : Node) (rest : Nodes) (k : Position) (ts : ℕ → State) (ls : ℕ → Live) → ls b ≡ live_at s b (then_ rest k) → EachAtIn IsListed m (listed_in slot_of bs n ts ls) rest k (ts b)
+    in_exact : (n : Node) (rest : Nodes) (k : Position) (ts : ℕ → AllPaths) (ls : ℕ → Live) → ls b ≡ live_at s b (then_ rest k) → EachAtIn IsListed m (listed_in slot_of bs n ts ls) rest k (ts b)
     in_exact (plain p a) rest k ts ls e = act_exact p a rest k ts ls e
     in_exact (if_ p x one other) rest k ts ls e = (each_exact one (then_ rest k) ts ls e, each_exact other (then_ rest k) ts ls e)
     in_exact (loop p body latch) rest k ts ls e =
@@ -136,8 +136,8 @@ module _ (slot_of : ℕ → ℕ) (apart : AreApart slot_of) (bs : List ℕ) (b :
         let u : latch_live s b body latch (ls b).on ≡ latch_live s b body' latch' (live s b rest (live_at s b k)) = ap (latch_live s b body latch) o ∙ sym (latch_same s b body latch body' latch' lb lt _) in
         let f : flow m body ≡ flow m body' = λ i v. sym (flow_listed slot_of bs m (held_listing b) body hs bl v) i in
         let g : flow m latch ≡ flow m latch' = λ i v. sym (flow_listed slot_of bs m (held_listing b) latch us tl v) i in (
-          subst (λ (v : State). EachAt IsListed m body' (in_body body' latch' (then_ rest k)) v) (λ i. head_of (f i) (g i) (ts b)) (each_exact body (in_body body' latch' (then_ rest k)) hs bl (λ i. lives (u i) (o i) (u i))),
-          subst (λ (v : State). EachAt IsListed m latch' (in_latch body' latch' (then_ rest k)) v) (λ i. end_state (f i (head_of (f i) (g i) (ts b)))) (each_exact latch (in_latch body' latch' (then_ rest k)) us tl (λ i. lives (h i) (o i) (h i))),
+          subst (λ (v : AllPaths). EachAt IsListed m body' (in_body body' latch' (then_ rest k)) v) (λ i. head_of (f i) (g i) (ts b)) (each_exact body (in_body body' latch' (then_ rest k)) hs bl (λ i. lives (u i) (o i) (u i))),
+          subst (λ (v : AllPaths). EachAt IsListed m latch' (in_latch body' latch' (then_ rest k)) v) (λ i. end_state (f i (head_of (f i) (g i) (ts b)))) (each_exact latch (in_latch body' latch' (then_ rest k)) us tl (λ i. lives (h i) (o i) (h i))),
         )
     in_exact (break_ p) rest k ts ls e = tt
     in_exact (next_ p) rest k ts ls e = tt
@@ -149,11 +149,11 @@ module _ (slot_of : ℕ → ℕ) (bs : List ℕ) where
   IsTheirs a k = (list : List ℕ) → list_of a ≡ Some list → (s : ℕ) → lacks s list ≡ false → (b : ℕ) × IsIn bs b × (s ≡ slot_of b)
 
   mutual
-    pub every_theirs : (ns : Nodes) (k : Position) (ts : ℕ → State) (ls : ℕ → Live) → EveryAct IsTheirs (listed slot_of bs ns ts ls) k
+    pub every_theirs : (ns : Nodes) (k : Position) (ts : ℕ → AllPaths) (ls : ℕ → Live) → EveryAct IsTheirs (listed slot_of bs ns ts ls) k
     every_theirs no_nodes k ts ls = tt
     every_theirs (more_nodes n rest) k ts ls = (in_theirs n _ k ts (rest_lives slot_of rest ls), every_theirs rest k (on_states n ts) ls)
 
-    in_theirs : (n : Node) (rest : Nodes) (k : Position) (ts : ℕ → State) (ls : ℕ → Live) → EveryActIn IsTheirs (listed_in slot_of bs n ts ls) rest k
+    in_theirs : (n : Node) (rest : Nodes) (k : Position) (ts : ℕ → AllPaths) (ls : ℕ → Live) → EveryActIn IsTheirs (listed_in slot_of bs n ts ls) rest k
     in_theirs (plain p a) rest k ts ls = λ list e s h.
         let later : ℕ → Bool = λ b. live_act (slot_of b) b a (ls b).on in
         list_only slot_of a ts later s bs (ap (lacks s) (list_is a (list_for slot_of bs a ts later) list e) ∙ h)

@@ -6,18 +6,18 @@ use Rattle.struct_ir.specs.declared.code.NodeKind.TheViews as views
 use Rattle.struct_ir.specs.Nodes.{Node, if_, loop, Nodes, more_nodes}
 use Rattle.struct_ir.specs.Views.{node_view, nodes_view}
 use Rattle.struct_ir.proofs.Views.{if_is, loop_is}
-use Rattle.pin_flow.specs.Marks.{State, end_state, head_of, flow}
+use Rattle.pin_flow.specs.Marks.{AllPaths, end_state, head_of, flow}
 use Rattle.pin_flow.specs.Held.{held}
 use Rattle.pin_flow.specs.Live.{Live, lives, live, head_live, latch_live, body_lives, latch_lives}
 use Rattle.pin_frames.specs.inner.Place.{listed_one, listed_one_in}
 
 -- no list of the row wants the slot
 abbrev pub IsFree : (slot b : ℕ) → Nodes → Live → Type 0
-IsFree slot b ns l = (t : State) → listed_one slot b ns t l ≡ ns
+IsFree slot b ns l = (t : AllPaths) → listed_one slot b ns t l ≡ ns
 
 -- nor does one of the node
 abbrev pub IsFreeIn : (slot b : ℕ) → Node → Live → Type 0
-IsFreeIn slot b n l = (t : State) → listed_one_in slot b n t l ≡ n
+IsFreeIn slot b n l = (t : AllPaths) → listed_one_in slot b n t l ≡ n
 
 -- ---- rows
 

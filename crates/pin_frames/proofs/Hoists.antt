@@ -2,7 +2,7 @@
 use Rattle.std.proofs.Common.{◌≡◌, ℕ, List, [], true, false, ◌||◌, ◌&&◌, refl, sym, ◌∙◌}
 use Rattle.std.specs.Prelude.{not}
 use Rattle.struct_ir.specs.Nodes.{Act, set, call, step, look, safepoint, begin_object, end_object, Node, plain, if_, loop, break_, next_, ret, Nodes, no_nodes, more_nodes}
-use Rattle.pin_flow.specs.Marks.{State, bad, Each}
+use Rattle.pin_flow.specs.Marks.{AllPaths, bad, Each}
 use Rattle.pin_flow.specs.Looks.{act_looks, act_assigns, loops_assign, loop_in_assigns, Hoisted}
 use Rattle.pin_flow.specs.Held.{held, IsDue, HoistedThroughout}
 use Rattle.pin_flow.specs.Live.{Live, body_lives, latch_lives}
@@ -32,11 +32,11 @@ assigns_listing b (end_object i) l = refl
 
 module _ (slot_of : ℕ → ℕ) (bs : List ℕ) (b : ℕ) where
   mutual
-    loops_listed : (ns : Nodes) (ts : ℕ → State) (ls : ℕ → Live) → loops_assign b (listed slot_of bs ns ts ls) ≡ loops_assign b ns
+    loops_listed : (ns : Nodes) (ts : ℕ → AllPaths) (ls : ℕ → Live) → loops_assign b (listed slot_of bs ns ts ls) ≡ loops_assign b ns
     loops_listed no_nodes ts ls = refl
     loops_listed (more_nodes n rest) ts ls = λ i. loop_in_listed n ts (rest_lives slot_of rest ls) i && loops_listed rest (on_states n ts) ls i
 
-    loop_in_listed : (n : Node) (ts : ℕ → State) (ls : ℕ → Live) → loop_in_assigns b (listed_in slot_of bs n ts ls) ≡ loop_in_assigns b n
+    loop_in_listed : (n : Node) (ts : ℕ → AllPaths) (ls : ℕ → Live) → loop_in_assigns b (listed_in slot_of bs n ts ls) ≡ loop_in_assigns b n
     loop_in_listed (plain p a) ts ls = refl
     loop_in_listed (if_ p x one other) ts ls = λ i. loops_listed one ts ls i && loops_listed other ts ls i
     loop_in_listed (loop p body latch) ts ls =
@@ -53,7 +53,7 @@ module _ (slot_of : ℕ → ℕ) (bs : List ℕ) (b : ℕ) where
     loop_in_listed (next_ p) ts ls = refl
     loop_in_listed (ret p x) ts ls = refl
 
-  each_due : (ns : Nodes) (ts : ℕ → State) (ls : ℕ → Live) → Each (IsDue b) (held b) ns bad → Each (IsDue b) (held b) (listed slot_of bs ns ts ls) bad
+  each_due : (ns : Nodes) (ts : ℕ → AllPaths) (ls : ℕ → Live) → Each (IsDue b) (held b) ns bad → Each (IsDue b) (held b) (listed slot_of bs ns ts ls) bad
   each_due ns ts ls e = each_listed slot_of bs (held b) (held_listing b) (IsDue b) (λ a l t q g. q (sym (looks_listing b a l) ∙ g)) ns ts ls bad e
 
   due_sat : (ns : Nodes) → Each (IsDue b) (held b) ns bad → Each (IsDue b) (held b) (sat ns) bad

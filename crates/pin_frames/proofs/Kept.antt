@@ -2,7 +2,7 @@
 use Rattle.std.proofs.Common.{◌≡◌, ℕ, List, [], ◌∷◌, Bool, true, false, ◌||◌, ◌&&◌, if◌then◌else◌, inl, inr, refl, sym, ap, ◌∙◌}
 use Rattle.std.specs.Prelude.{not}
 use Rattle.struct_ir.specs.Nodes.{Act, Node, plain, if_, loop, break_, next_, ret, Nodes, no_nodes, more_nodes}
-use Rattle.pin_flow.specs.Marks.{State, unreached, good, bad, join, state_of, after, Ways, end_state, round_of, head_of, flow, flow_node}
+use Rattle.pin_flow.specs.Marks.{AllPaths, unreached, good, bad, join, state_of, after, Ways, end_state, round_of, head_of, flow, flow_node}
 use Rattle.pin_flow.specs.Looks.{act_looks, act_assigns, looks_into}
 use Rattle.pin_flow.specs.Held.{held}
 use Rattle.pin_flow.specs.Slots.{IsIn}
@@ -11,7 +11,7 @@ use Rattle.pin_frames.specs.inner.Place.{is_bad, act_listing, list_for, heads, t
 use Rattle.pin_frames.specs.inner.Together.{slots_for, used_listed, used_listed_in, keeps, Kept, KeptIn}
 
 -- nothing is used later where some path says no
-abbrev pub Safe : State → Bool → Type 0
+abbrev pub Safe : AllPaths → Bool → Type 0
 Safe t later = t ≡ bad → later ≡ false
 
 abbrev pub SafeWays : Ways → Live → Type 0
@@ -20,7 +20,7 @@ SafeWays o l = Safe o.on l.on × (Safe o.broken l.out × Safe o.next l.end)
 safe_none : (later : Bool) → Safe unreached later
 safe_none later e = absurd cc
 
-safe_join : (t u : State) (later : Bool) → Safe t later → Safe u later → Safe (join t u) later
+safe_join : (t u : AllPaths) (later : Bool) → Safe t later → Safe u later → Safe (join t u) later
 safe_join unreached u later f g = g
 safe_join good unreached later f g = f
 safe_join good good later f g = f
@@ -48,16 +48,16 @@ or_none true y e = absurd (let g : true ≡ false = e in cc)
 or_none false y e = (refl, e)
 
 module _ (slot b : ℕ) where
-  safe_act : (a : Act) (t : State) (later : Bool) → (later ≡ true → keeps slot b a ≡ true) → Safe t (live_act slot b a later) → Safe (after (held b a) t) later
+  safe_act : (a : Act) (t : AllPaths) (later : Bool) → (later ≡ true → keeps slot b a ≡ true) → Safe t (live_act slot b a later) → Safe (after (held b a) t) later
   safe_act a unreached later h f e = absurd (let g : unreached ≡ bad = e in cc)
   safe_act a good later h f e = good_kept (act_looks b a) (act_assigns b a) (looks_into slot a) later h e
   safe_act a bad later h f e = bad_kept (act_looks b a) (act_assigns b a) (looks_into slot a) later (uses slot b a) h (f refl) e
 
   -- ---- loops
 
-  module _ (body latch : Nodes) (on : Bool) (F G : State → Ways)
-      (fb : (s : State) → Safe s (live slot b body (body_lives slot b body latch on)) → SafeWays (F s) (body_lives slot b body latch on))
-      (fl : (s : State) → Safe s (live slot b latch (latch_lives slot b body latch on)) → SafeWays (G s) (latch_lives slot b body latch on)) where
+  module _ (body latch : Nodes) (on : Bool) (F G : AllPaths → Ways)
+      (fb : (s : AllPaths) → Safe s (live slot b body (body_lives slot b body latch on)) → SafeWays (F s) (body_lives slot b body latch on))
+      (fl : (s : AllPaths) → Safe s (live slot b latch (latch_lives slot b body latch on)) → SafeWays (G s) (latch_lives slot b body latch on)) where
     abbrev top : Bool
     top = head_live slot b body latch on
 
@@ -66,42 +66,42 @@ module _ (slot b : ℕ) where
     unfolding head_live latch_live
     again e = (λ i. live slot b body (lives (live slot b latch (lives (e i) on (e i))) on (live slot b latch (lives (e i) on (e i))))) ∙ e
 
-    pub body_safe : (s : State) → Safe s top → Safe s (live slot b body (body_lives slot b body latch on))
+    pub body_safe : (s : AllPaths) → Safe s top → Safe s (live slot b body (body_lives slot b body latch on))
     body_safe s f e = again (f e)
 
-    pub turn_safe : (s : State) → Safe s top → Safe (end_state (F s)) (live slot b latch (latch_lives slot b body latch on))
+    pub turn_safe : (s : AllPaths) → Safe s top → Safe (end_state (F s)) (live slot b latch (latch_lives slot b body latch on))
     unfolding latch_live
     turn_safe s f = let p = fb s (body_safe s f) in safe_join _ _ _ p.0 p.1.1
 
-    round_safe : (s : State) → Safe s top → Safe (round_of F G s).on top × Safe (round_of F G s).broken on
+    round_safe : (s : AllPaths) → Safe s top → Safe (round_of F G s).on top × Safe (round_of F G s).broken on
     unfolding round_of
     round_safe s f =
         let p = fb s (body_safe s f) in
         let q = fl (end_state (F s)) (turn_safe s f) in
         (safe_join _ _ _ q.0 q.1.1, safe_join _ _ _ p.1.0 q.1.0)
 
-    pub head_safe : (s : State) → Safe s top → Safe (head_of F G s) top
+    pub head_safe : (s : AllPaths) → Safe s top → Safe (head_of F G s) top
     unfolding head_of
     head_safe s f = safe_join _ _ _ f (round_safe s f).0
 
-    pub loop_safe : (s : State) → Safe s top → Safe (round_of F G (head_of F G s)).broken on
+    pub loop_safe : (s : AllPaths) → Safe s top → Safe (round_of F G (head_of F G s)).broken on
     loop_safe s f = (round_safe (head_of F G s) (head_safe s f)).1
 
-  at_head : (body latch : Nodes) (on : Bool) (t : State) → Safe t (live slot b body (lives (live slot b latch (lives false on false)) on (live slot b latch (lives false on false)))) → Safe t (head_live slot b body latch on)
+  at_head : (body latch : Nodes) (on : Bool) (t : AllPaths) → Safe t (live slot b body (lives (live slot b latch (lives false on false)) on (live slot b latch (lives false on false)))) → Safe t (head_live slot b body latch on)
   unfolding head_live
   at_head body latch on t f = f
 
   mutual
     unfolding flow live Kept
 
-    pub safe_flow : (ns : Nodes) (l : Live) (t : State) → Kept slot b ns l → Safe t (live slot b ns l) → SafeWays (flow (held b) ns t) l
+    pub safe_flow : (ns : Nodes) (l : Live) (t : AllPaths) → Kept slot b ns l → Safe t (live slot b ns l) → SafeWays (flow (held b) ns t) l
     safe_flow no_nodes l t k f = (f, (safe_none _, safe_none _))
     safe_flow (more_nodes n rest) l t k f =
         let p = safe_node n (lives (live slot b rest l) l.out l.end) t k.0 f in
         let q = safe_flow rest l (flow_node (held b) n t).on k.1 p.0 in
         (q.0, (safe_join _ _ _ p.1.0 q.1.0, safe_join _ _ _ p.1.1 q.1.1))
 
-    pub safe_node : (n : Node) (l : Live) (t : State) → KeptIn slot b n l → Safe t (live_node slot b n l) → SafeWays (flow_node (held b) n t) l
+    pub safe_node : (n : Node) (l : Live) (t : AllPaths) → KeptIn slot b n l → Safe t (live_node slot b n l) → SafeWays (flow_node (held b) n t) l
     safe_node (plain p a) l t k f = (safe_act a t l.on k f, (safe_none _, safe_none _))
     safe_node (if_ p x one other) l t k f =
         let y = safe_flow one l t k.0 (λ e. (or_none _ _ (f e)).0) in
@@ -117,7 +117,7 @@ module _ (slot b : ℕ) where
 
 -- ---- lists
 
-wanted_is : (t : State) (u z : Bool) → Safe t (u || z) → ((not (is_bad t) && (u || z)) || u) ≡ (u || z)
+wanted_is : (t : AllPaths) (u z : Bool) → Safe t (u || z) → ((not (is_bad t) && (u || z)) || u) ≡ (u || z)
 wanted_is unreached true z f = refl
 wanted_is unreached false true f = refl
 wanted_is unreached false false f = refl
@@ -128,7 +128,7 @@ wanted_is bad true z f = refl
 wanted_is bad false z f = sym (f refl)
 
 module _ (slot_of : ℕ → ℕ) where
-  for_used : (a : Act) (ts : ℕ → State) (ls : ℕ → Live) (todo : List ℕ) → ((b : ℕ) → IsIn todo b → Safe (ts b) (live_act (slot_of b) b a (ls b).on))
+  for_used : (a : Act) (ts : ℕ → AllPaths) (ls : ℕ → Live) (todo : List ℕ) → ((b : ℕ) → IsIn todo b → Safe (ts b) (live_act (slot_of b) b a (ls b).on))
       → list_for slot_of todo a ts (λ b. live_act (slot_of b) b a (ls b).on) ≡ slots_for slot_of todo (λ b. live_act (slot_of b) b a (ls b).on)
   for_used a ts ls [] f = refl
   for_used a ts ls (b ∷ todo) f =
@@ -144,22 +144,22 @@ module _ (slot_of : ℕ → ℕ) where
       λ i. if w i then slot_of b ∷ r i else r i
 
   module _ (bs : List ℕ) where
-    round_body : (b : ℕ) (l : Live) (body latch : Nodes) → Kept (slot_of b) b body (body_lives (slot_of b) b body latch l.on) → (s : State) → Safe s (live (slot_of b) b body (body_lives (slot_of b) b body latch l.on))
+    round_body : (b : ℕ) (l : Live) (body latch : Nodes) → Kept (slot_of b) b body (body_lives (slot_of b) b body latch l.on) → (s : AllPaths) → Safe s (live (slot_of b) b body (body_lives (slot_of b) b body latch l.on))
         → SafeWays (flow (held b) body s) (body_lives (slot_of b) b body latch l.on)
     round_body b l body latch k s = safe_flow (slot_of b) b body (body_lives (slot_of b) b body latch l.on) s k
 
-    round_latch : (b : ℕ) (l : Live) (body latch : Nodes) → Kept (slot_of b) b latch (latch_lives (slot_of b) b body latch l.on) → (s : State) → Safe s (live (slot_of b) b latch (latch_lives (slot_of b) b body latch l.on))
+    round_latch : (b : ℕ) (l : Live) (body latch : Nodes) → Kept (slot_of b) b latch (latch_lives (slot_of b) b body latch l.on) → (s : AllPaths) → Safe s (live (slot_of b) b latch (latch_lives (slot_of b) b body latch l.on))
         → SafeWays (flow (held b) latch s) (latch_lives (slot_of b) b body latch l.on)
     round_latch b l body latch k s = safe_flow (slot_of b) b latch (latch_lives (slot_of b) b body latch l.on) s k
 
-    top_safe : (b : ℕ) (l : Live) (t : State) (body latch : Nodes) → Kept (slot_of b) b body (body_lives (slot_of b) b body latch l.on) × Kept (slot_of b) b latch (latch_lives (slot_of b) b body latch l.on)
+    top_safe : (b : ℕ) (l : Live) (t : AllPaths) (body latch : Nodes) → Kept (slot_of b) b body (body_lives (slot_of b) b body latch l.on) × Kept (slot_of b) b latch (latch_lives (slot_of b) b body latch l.on)
         → Safe t (live (slot_of b) b body (lives (live (slot_of b) b latch (lives false l.on false)) l.on (live (slot_of b) b latch (lives false l.on false)))) → Safe (head_of (flow (held b) body) (flow (held b) latch) t) (head_live (slot_of b) b body latch l.on)
     top_safe b l t body latch k f = head_safe (slot_of b) b body latch l.on (flow (held b) body) (flow (held b) latch) (round_body b l body latch k.0) (round_latch b l body latch k.1) t (at_head (slot_of b) b body latch l.on t f)
 
     mutual
       unfolding flow live Kept
 
-      pub listed_used : (ns : Nodes) (ts : ℕ → State) (ls : ℕ → Live) → ((b : ℕ) → IsIn bs b → Kept (slot_of b) b ns (ls b)) → ((b : ℕ) → IsIn bs b → Safe (ts b) (live (slot_of b) b ns (ls b)))
+      pub listed_used : (ns : Nodes) (ts : ℕ → AllPaths) (ls : ℕ → Live) → ((b : ℕ) → IsIn bs b → Kept (slot_of b) b ns (ls b)) → ((b : ℕ) → IsIn bs b → Safe (ts b) (live (slot_of b) b ns (ls b)))
           → listed slot_of bs ns ts ls ≡ used_listed slot_of bs ns ls
       listed_used no_nodes ts ls k f = refl
       listed_used (more_nodes n rest) ts ls k f =
@@ -167,7 +167,7 @@ module _ (slot_of : ℕ → ℕ) where
           let later = listed_used rest (on_states n ts) ls (λ b j. (k b j).1) (λ b j. (safe_node (slot_of b) b n (rest_lives slot_of rest ls b) (ts b) (k b j).0 (f b j)).0) in
           λ i. more_nodes (here i) (later i)
 
-      in_used : (n : Node) (ts : ℕ → State) (ls : ℕ → Live) → ((b : ℕ) → IsIn bs b → KeptIn (slot_of b) b n (ls b)) → ((b : ℕ) → IsIn bs b → Safe (ts b) (live_node (slot_of b) b n (ls b)))
+      in_used : (n : Node) (ts : ℕ → AllPaths) (ls : ℕ → Live) → ((b : ℕ) → IsIn bs b → KeptIn (slot_of b) b n (ls b)) → ((b : ℕ) → IsIn bs b → Safe (ts b) (live_node (slot_of b) b n (ls b)))
           → listed_in slot_of bs n ts ls ≡ used_listed_in slot_of bs n ls
       in_used (plain p a) ts ls k f = ap (λ l. plain p (act_listing a l)) (for_used a ts ls bs f)
       in_used (if_ p x one other) ts ls k f =

@@ -8,7 +8,7 @@ use Rattle.struct_ir.specs.declared.code.NodeKind.TheViews as views
 use Rattle.struct_ir.specs.Nodes.{Node, if_, loop, Nodes, no_nodes, more_nodes}
 use Rattle.struct_ir.specs.Views.{kind_view, node_view, nodes_view}
 use Rattle.struct_ir.proofs.Views.{if_is, if_view, loop_is, loop_view}
-use Rattle.pin_flow.specs.Marks.{State, Ways, in_turn, end_state, head_of, flow, flow_node}
+use Rattle.pin_flow.specs.Marks.{AllPaths, Ways, in_turn, end_state, head_of, flow, flow_node}
 use Rattle.pin_flow.specs.Held.{held}
 use Rattle.pin_flow.specs.Live.{Live, lives, live, live_node, head_live, latch_live, body_lives, latch_lives}
 use Rattle.pin_frames.specs.inner.Place.{listed_one, listed_one_in, behind, last_in}
@@ -77,12 +77,12 @@ popped_set slot b xs i y l new e =
     e ∙ ap (λ r. behind slot b (nodes_view r) l) (sym left)
 
 -- what two rows become, and where
-pub if_listed : (slot b temp : ℕ) (n : CodeNode) (v w one other : Vec CodeNode) (s : State) (l : Live) → n.kind ≡ views.If temp v w
+pub if_listed : (slot b temp : ℕ) (n : CodeNode) (v w one other : Vec CodeNode) (s : AllPaths) (l : Live) → n.kind ≡ views.If temp v w
     → nodes_view one.items ≡ listed_one slot b (nodes_view v.items) s l → nodes_view other.items ≡ listed_one slot b (nodes_view w.items) s l
     → kind_view n.place (views.If temp one other) ≡ listed_one_in slot b (node_view n) s l
 if_listed slot b temp n v w one other s l is f g = if_view n.place temp one other ∙ ((λ i. if_ n.place temp (f i) (g i)) ∙ ap (λ y. listed_one_in slot b y s l) (sym (if_is n temp v w is)))
 
-pub loop_listed : (slot b : ℕ) (n : CodeNode) (v w first second : Vec CodeNode) (s h z : State) (l p q : Live) (top end : Bool) → n.kind ≡ views.Loop v w
+pub loop_listed : (slot b : ℕ) (n : CodeNode) (v w first second : Vec CodeNode) (s h z : AllPaths) (l p q : Live) (top end : Bool) → n.kind ≡ views.Loop v w
     → h ≡ head_of (flow (held b) (nodes_view v.items)) (flow (held b) (nodes_view w.items)) s → z ≡ end_state (flow (held b) (nodes_view v.items) h)
     → top ≡ head_live slot b (nodes_view v.items) (nodes_view w.items) l.on → end ≡ latch_live slot b (nodes_view v.items) (nodes_view w.items) l.on → p ≡ lives end l.on end → q ≡ lives top l.on top
     → nodes_view first.items ≡ listed_one slot b (nodes_view v.items) h p → nodes_view second.items ≡ listed_one slot b (nodes_view w.items) z q

@@ -3,7 +3,7 @@ use Rattle.std.proofs.Common.{◌≡◌, ℕ, List, Bool, true, false, ◌||◌,
 use Rattle.struct_ir.specs.Nodes.{Act, set, call, step, look, safepoint, begin_object, end_object, Node, plain, if_, loop, break_, next_, ret, Nodes, no_nodes, more_nodes}
 use Rattle.struct_ir.specs.Lists.{bare_act}
 use Rattle.struct_ir.specs.Erased.{is_kept, put, erased}
-use Rattle.pin_flow.specs.Marks.{Mark, State, after, at, Ways, either, round_of, head_of, end_state, flow, flow_node, Each, EachIn}
+use Rattle.pin_flow.specs.Marks.{Mark, AllPaths, after, at, Ways, either, round_of, head_of, end_state, flow, flow_node, Each, EachIn}
 use Rattle.pin_flow.specs.Looks.{some_act, some_in}
 use Rattle.pin_flow.specs.Live.{uses, Live, lives, live_act, live, live_node, body_lives, latch_lives}
 use Rattle.pin_frames.specs.inner.Place.{act_listing, list_for, heads, turns, on_states, rest_lives, listed, listed_in}
@@ -52,7 +52,7 @@ erase_put p a l rest rest' e =
     (λ g. (λ i. more_nodes (plain p (bare_listing a l g i)) (e i))) (λ g. e)
 
 module _ (slot_of : ℕ → ℕ) (bs : List ℕ) where
-  pub erase_listed : (ns : Nodes) (ts : ℕ → State) (ls : ℕ → Live) → erased (listed slot_of bs ns ts ls) ≡ erased ns
+  pub erase_listed : (ns : Nodes) (ts : ℕ → AllPaths) (ls : ℕ → Live) → erased (listed slot_of bs ns ts ls) ≡ erased ns
   erase_listed no_nodes ts ls = refl
   erase_listed (more_nodes (plain p a) rest) ts ls = erase_put p a _ rest (listed slot_of bs rest (on_states (plain p a) ts) ls) (erase_listed rest _ ls)
   erase_listed (more_nodes (if_ p x one other) rest) ts ls =
@@ -68,11 +68,11 @@ module _ (slot_of : ℕ → ℕ) (bs : List ℕ) where
   -- a test that doesn't see lists
   module _ (f : Act → Bool) (same : (a : Act) (l : List ℕ) → f (act_listing a l) ≡ f a) where
     mutual
-      pub some_listed : (ns : Nodes) (ts : ℕ → State) (ls : ℕ → Live) → some_act f (listed slot_of bs ns ts ls) ≡ some_act f ns
+      pub some_listed : (ns : Nodes) (ts : ℕ → AllPaths) (ls : ℕ → Live) → some_act f (listed slot_of bs ns ts ls) ≡ some_act f ns
       some_listed no_nodes ts ls = refl
       some_listed (more_nodes n rest) ts ls = λ i. some_in_listed n ts (rest_lives slot_of rest ls) i || some_listed rest (on_states n ts) ls i
 
-      some_in_listed : (n : Node) (ts : ℕ → State) (ls : ℕ → Live) → some_in f (listed_in slot_of bs n ts ls) ≡ some_in f n
+      some_in_listed : (n : Node) (ts : ℕ → AllPaths) (ls : ℕ → Live) → some_in f (listed_in slot_of bs n ts ls) ≡ some_in f n
       some_in_listed (plain p a) ts ls = same a _
       some_in_listed (if_ p x one other) ts ls = λ i. some_listed one ts ls i || some_listed other ts ls i
       some_in_listed (loop p body latch) ts ls =
@@ -85,13 +85,13 @@ module _ (slot_of : ℕ → ℕ) (bs : List ℕ) where
     mutual
       unfolding flow
 
-      pub flow_listed : (ns : Nodes) (ts : ℕ → State) (ls : ℕ → Live) (t : State) → flow m (listed slot_of bs ns ts ls) t ≡ flow m ns t
+      pub flow_listed : (ns : Nodes) (ts : ℕ → AllPaths) (ls : ℕ → Live) (t : AllPaths) → flow m (listed slot_of bs ns ts ls) t ≡ flow m ns t
       flow_listed no_nodes ts ls t = refl
       flow_listed (more_nodes n rest) ts ls t =
           also_same m n (listed_in slot_of bs n ts (rest_lives slot_of rest ls)) rest (listed slot_of bs rest (on_states n ts) ls) t
           (node_listed n ts (rest_lives slot_of rest ls) t) (flow_listed rest (on_states n ts) ls (flow_node m n t).on)
 
-      pub node_listed : (n : Node) (ts : ℕ → State) (ls : ℕ → Live) (t : State) → flow_node m (listed_in slot_of bs n ts ls) t ≡ flow_node m n t
+      pub node_listed : (n : Node) (ts : ℕ → AllPaths) (ls : ℕ → Live) (t : AllPaths) → flow_node m (listed_in slot_of bs n ts ls) t ≡ flow_node m n t
       node_listed (plain p a) ts ls t = λ i. at (after (λ v. same a (list_for slot_of bs a ts (λ b. live_act (slot_of b) b a (ls b).on)) v i) t)
       node_listed (if_ p x one other) ts ls t = λ i. either (flow_listed one ts ls t i) (flow_listed other ts ls t i)
       node_listed (loop p body latch) ts ls t =
@@ -102,16 +102,16 @@ module _ (slot_of : ℕ → ℕ) (bs : List ℕ) where
       node_listed (next_ p) ts ls t = refl
       node_listed (ret p x) ts ls t = refl
 
-    module _ (Q : Act → State → Type 0) (keeps : (a : Act) (l : List ℕ) (t : State) → Q a t → Q (act_listing a l) t) where
+    module _ (Q : Act → AllPaths → Type 0) (keeps : (a : Act) (l : List ℕ) (t : AllPaths) → Q a t → Q (act_listing a l) t) where
       mutual
-        pub each_listed : (ns : Nodes) (ts : ℕ → State) (ls : ℕ → Live) (t : State) → Each Q m ns t → Each Q m (listed slot_of bs ns ts ls) t
+        pub each_listed : (ns : Nodes) (ts : ℕ → AllPaths) (ls : ℕ → Live) (t : AllPaths) → Each Q m ns t → Each Q m (listed slot_of bs ns ts ls) t
         each_listed no_nodes ts ls t e = tt
         each_listed (more_nodes n rest) ts ls t e = (
           in_listed n ts (rest_lives slot_of rest ls) t e.0,
           subst (λ (o : Ways). Each Q m (listed slot_of bs rest (on_states n ts) ls) o.on) (sym (node_listed n ts (rest_lives slot_of rest ls) t)) (each_listed rest (on_states n ts) ls _ e.1),
         )
 
-        in_listed : (n : Node) (ts : ℕ → State) (ls : ℕ → Live) (t : State) → EachIn Q m n t → EachIn Q m (listed_in slot_of bs n ts ls) t
+        in_listed : (n : Node) (ts : ℕ → AllPaths) (ls : ℕ → Live) (t : AllPaths) → EachIn Q m n t → EachIn Q m (listed_in slot_of bs n ts ls) t
         in_listed (plain p a) ts ls t e = keeps a _ t e
         in_listed (if_ p x one other) ts ls t e = (each_listed one ts ls t e.0, each_listed other ts ls t e.1)
         in_listed (loop p body latch) ts ls t e =
@@ -119,8 +119,8 @@ module _ (slot_of : ℕ → ℕ) (bs : List ℕ) where
             let tl : ℕ → Live = λ b. latch_lives (slot_of b) b body latch (ls b).on in
             let f : flow m body ≡ flow m (listed slot_of bs body (heads body latch ts) bl) = λ i u. sym (flow_listed body (heads body latch ts) bl u) i in
             let g : flow m latch ≡ flow m (listed slot_of bs latch (turns body latch ts) tl) = λ i u. sym (flow_listed latch (turns body latch ts) tl u) i in (
-              subst (λ (u : State). Each Q m (listed slot_of bs body (heads body latch ts) bl) u) (λ i. head_of (f i) (g i) t) (each_listed body _ _ _ e.0),
-              subst (λ (u : State). Each Q m (listed slot_of bs latch (turns body latch ts) tl) u) (λ i. end_state (f i (head_of (f i) (g i) t))) (each_listed latch _ _ _ e.1),
+              subst (λ (u : AllPaths). Each Q m (listed slot_of bs body (heads body latch ts) bl) u) (λ i. head_of (f i) (g i) t) (each_listed body _ _ _ e.0),
+              subst (λ (u : AllPaths). Each Q m (listed slot_of bs latch (turns body latch ts) tl) u) (λ i. end_state (f i (head_of (f i) (g i) t))) (each_listed latch _ _ _ e.1),
             )
         in_listed (break_ p) ts ls t e = tt
         in_listed (next_ p) ts ls t e = tt
@@ -130,12 +130,12 @@ module _ (slot_of : ℕ → ℕ) (bs : List ℕ) where
     mutual
       unfolding live
 
-      pub live_listed : (ns : Nodes) (ts : ℕ → State) (ls : ℕ → Live) (l : Live) → live slot b (listed slot_of bs ns ts ls) l ≡ live slot b ns l
+      pub live_listed : (ns : Nodes) (ts : ℕ → AllPaths) (ls : ℕ → Live) (l : Live) → live slot b (listed slot_of bs ns ts ls) l ≡ live slot b ns l
       live_listed no_nodes ts ls l = refl
       live_listed (more_nodes n rest) ts ls l =
           live_in_listed n ts (rest_lives slot_of rest ls) _ ∙ ap (λ x. live_node slot b n (lives x l.out l.end)) (live_listed rest (on_states n ts) ls l)
 
-      live_in_listed : (n : Node) (ts : ℕ → State) (ls : ℕ → Live) (l : Live) → live_node slot b (listed_in slot_of bs n ts ls) l ≡ live_node slot b n l
+      live_in_listed : (n : Node) (ts : ℕ → AllPaths) (ls : ℕ → Live) (l : Live) → live_node slot b (listed_in slot_of bs n ts ls) l ≡ live_node slot b n l
       live_in_listed (plain p a) ts ls l = live_listing slot b a _ l.on
       live_in_listed (if_ p x one other) ts ls l = λ i. live_listed one ts ls l i || live_listed other ts ls l i
       live_in_listed (loop p body latch) ts ls l =

@@ -6,7 +6,7 @@ use Rattle.struct_ir.specs.Nodes.{Act, set, call, step, look, safepoint, begin_o
 use Rattle.struct_ir.specs.Flow.{does, entry}
 use Rattle.struct_ir.specs.Structured.{Position, done, then_, here, structured}
 use Rattle.struct_ir.specs.Pins.{lacks, Available}
-use Rattle.pin_flow.specs.Marks.{answer, State, unreached, good, bad, Each, EveryAct}
+use Rattle.pin_flow.specs.Marks.{answer, AllPaths, unreached, good, bad, Each, EveryAct}
 use Rattle.pin_flow.specs.Looks.{some_act, Uses, UsesItself, IsUsed, PinsExact}
 use Rattle.pin_flow.specs.Held.{held, fresh}
 use Rattle.pin_flow.specs.Slots.{own, IsOwn, IsIn, AreApart}
@@ -33,12 +33,12 @@ own_listing slot_of (safepoint old) l = refl
 own_listing slot_of (begin_object i) l = refl
 own_listing slot_of (end_object i) l = refl
 
-pub not_bad : (t : State) → is_bad t ≡ false → t ≢ bad
+pub not_bad : (t : AllPaths) → is_bad t ≡ false → t ≢ bad
 not_bad unreached e = λ h. absurd cc
 not_bad good e = λ h. absurd cc
 not_bad bad e = absurd cc
 
-pub bad_is : (t : State) → is_bad t ≡ true → t ≡ bad
+pub bad_is : (t : AllPaths) → is_bad t ≡ true → t ≡ bad
 bad_is unreached e = absurd cc
 bad_is good e = absurd cc
 bad_is bad e = refl
@@ -78,10 +78,10 @@ module _ (slot_of : ℕ → ℕ) (apart : AreApart slot_of) (bs : List ℕ) (ns 
       (same, among b (sym (out_uses (slot_of b) b) ∙ subst (λ x. some_act (uses x b) out ≡ true) same e))
 
   -- ---- a list holds only what is available
-  abbrev IsFine : ℕ → Act → State → Type 0
+  abbrev IsFine : ℕ → Act → AllPaths → Type 0
   IsFine b a t = (list : List ℕ) → list_of a ≡ Some list → lacks (slot_of b) list ≡ false → uses (slot_of b) b a ≡ false → t ≢ bad
 
-  fine_down : (b : ℕ) (a : Act) (t u : State) → rank t ≤ rank u → IsFine b a u → IsFine b a t
+  fine_down : (b : ℕ) (a : Act) (t u : AllPaths) → rank t ≤ rank u → IsFine b a u → IsFine b a t
   fine_down b a unreached u le f = λ list e h g x. absurd cc
   fine_down b a good u le f = λ list e h g x. absurd cc
   fine_down b a bad unreached le f = absurd (omega arith)
@@ -107,7 +107,7 @@ module _ (slot_of : ℕ → ℕ) (apart : AreApart slot_of) (bs : List ℕ) (ns 
   Theirs = (b : ℕ) × IsIn bs b
 
   abbrev Shown : Theirs → Act → Position → Type 0
-  Shown x a k = (list : List ℕ) → list_of a ≡ Some list → (t : State) × Seen false (held x.0) (held_fair x.0) start k t × (lacks (slot_of x.0) list ≡ not (wanted slot_of x.0 a t (live_at (slot_of x.0) x.0 k).on))
+  Shown x a k = (list : List ℕ) → list_of a ≡ Some list → (t : AllPaths) × Seen false (held x.0) (held_fair x.0) start k t × (lacks (slot_of x.0) list ≡ not (wanted slot_of x.0 a t (live_at (slot_of x.0) x.0 k).on))
 
   shown : EveryAct (λ a k. (x : Theirs) → Shown x a k) out done
   shown = every_all Theirs Shown out done (λ x.

@@ -2,7 +2,7 @@
 use Rattle.std.proofs.Common.{◌≡◌, ℕ, List, [], ◌∷◌, ◌++◌, append_assoc, append-nil, Bool, true, false, ◌||◌, ◌&&◌, if◌then◌else◌, inl, inr, refl, sym, ap, ◌∙◌}
 use Rattle.std.specs.Prelude.{not}
 use Rattle.struct_ir.specs.Nodes.{Act, set, call, step, look, safepoint, begin_object, end_object, may_wait, Node, plain, if_, loop, break_, next_, ret, Nodes, no_nodes, more_nodes}
-use Rattle.pin_flow.specs.Marks.{Mark, State, head_of, end_state, flow, flow_node}
+use Rattle.pin_flow.specs.Marks.{Mark, AllPaths, head_of, end_state, flow, flow_node}
 use Rattle.pin_flow.specs.Held.{held}
 use Rattle.pin_flow.specs.Slots.{slot_in, slot_if, IsIn}
 use Rattle.pin_flow.specs.Live.{Live, lives, live_act, live, head_live, latch_live, body_lives, latch_lives}
@@ -28,7 +28,7 @@ adding_listed slot y (begin_object i) l = refl
 adding_listed slot y (end_object i) l = refl
 
 module _ (slot_of : ℕ → ℕ) where
-  list_more : (b : ℕ) (a : Act) (ts : ℕ → State) (later : ℕ → Bool) (bs : List ℕ)
+  list_more : (b : ℕ) (a : Act) (ts : ℕ → AllPaths) (later : ℕ → Bool) (bs : List ℕ)
       → list_for slot_of (bs ++ (b ∷ [])) a ts later ≡ added (slot_of b) (wanted slot_of b a (ts b) (later b)) (list_for slot_of bs a ts later)
   list_more b a ts later [] = refl
   list_more b a ts later (c ∷ bs) =
@@ -48,7 +48,7 @@ module _ (slot_of : ℕ → ℕ) where
     abbrev m : Mark
     m = held b
 
-    act_more : (a : Act) (ts : ℕ → State) (ls : ℕ → Live) → let later : ℕ → Bool = λ c. live_act (slot_of c) c a (ls c).on in
+    act_more : (a : Act) (ts : ℕ → AllPaths) (ls : ℕ → Live) → let later : ℕ → Bool = λ c. live_act (slot_of c) c a (ls c).on in
         act_adding s (wants s b (act_listing a (list_for slot_of bs a ts later)) (ts b) (ls b).on) (act_listing a (list_for slot_of bs a ts later)) ≡ act_listing a (list_for slot_of (bs ++ (b ∷ [])) a ts later)
     act_more a ts ls =
         let later : ℕ → Bool = λ c. live_act (slot_of c) c a (ls c).on in
@@ -57,7 +57,7 @@ module _ (slot_of : ℕ → ℕ) where
         ap (λ y. act_adding s y (act_listing a l)) e ∙ (adding_listed s (wanted slot_of b a (ts b) (later b)) a l ∙ ap (act_listing a) (sym (list_more b a ts later bs)))
 
     mutual
-      pub listed_more : (ns : Nodes) (ts : ℕ → State) (ls : ℕ → Live) → listed_one s b (listed slot_of bs ns ts ls) (ts b) (ls b) ≡ listed slot_of (bs ++ (b ∷ [])) ns ts ls
+      pub listed_more : (ns : Nodes) (ts : ℕ → AllPaths) (ls : ℕ → Live) → listed_one s b (listed slot_of bs ns ts ls) (ts b) (ls b) ≡ listed slot_of (bs ++ (b ∷ [])) ns ts ls
       listed_more no_nodes ts ls = refl
       listed_more (more_nodes n rest) ts ls =
           let rl = rest_lives slot_of rest ls in
@@ -67,7 +67,7 @@ module _ (slot_of : ℕ → ℕ) where
           (λ i. more_nodes (listed_one_in s b (listed_in slot_of bs n ts rl) (ts b) (lives (lv i) (ls b).out (ls b).end)) (listed_one s b rest' (st i).on (ls b)))
           ∙ (λ i. more_nodes (in_more n ts rl i) (listed_more rest (on_states n ts) ls i))
 
-      in_more : (n : Node) (ts : ℕ → State) (ls : ℕ → Live) → listed_one_in s b (listed_in slot_of bs n ts ls) (ts b) (ls b) ≡ listed_in slot_of (bs ++ (b ∷ [])) n ts ls
+      in_more : (n : Node) (ts : ℕ → AllPaths) (ls : ℕ → Live) → listed_one_in s b (listed_in slot_of bs n ts ls) (ts b) (ls b) ≡ listed_in slot_of (bs ++ (b ∷ [])) n ts ls
       in_more (plain p a) ts ls = ap (plain p) (act_more a ts ls)
       in_more (if_ p x one other) ts ls = λ i. if_ p x (listed_more one ts ls i) (listed_more other ts ls i)
       in_more (loop p body latch) ts ls =
@@ -91,11 +91,11 @@ module _ (slot_of : ℕ → ℕ) where
 
   -- empty lists
   mutual
-    pub cleared_is : (ns : Nodes) (ts : ℕ → State) (ls : ℕ → Live) → listed slot_of [] ns ts ls ≡ cleared ns
+    pub cleared_is : (ns : Nodes) (ts : ℕ → AllPaths) (ls : ℕ → Live) → listed slot_of [] ns ts ls ≡ cleared ns
     cleared_is no_nodes ts ls = refl
     cleared_is (more_nodes n rest) ts ls = λ i. more_nodes (cleared_in_is n ts (rest_lives slot_of rest ls) i) (cleared_is rest (on_states n ts) ls i)
 
-    cleared_in_is : (n : Node) (ts : ℕ → State) (ls : ℕ → Live) → listed_in slot_of [] n ts ls ≡ cleared_in n
+    cleared_in_is : (n : Node) (ts : ℕ → AllPaths) (ls : ℕ → Live) → listed_in slot_of [] n ts ls ≡ cleared_in n
     cleared_in_is (plain p a) ts ls = refl
     cleared_in_is (if_ p x one other) ts ls = λ i. if_ p x (cleared_is one ts ls i) (cleared_is other ts ls i)
     cleared_in_is (loop p body latch) ts ls =

@@ -5,7 +5,7 @@ use Rattle.std.specs.Prelude.{not}
 use Rattle.struct_ir.specs.Nodes.{Act, set, call, step, look, safepoint, begin_object, end_object, Nodes, places_of, list_of}
 use Rattle.struct_ir.specs.Structured.{Position, done, then_, structured}
 use Rattle.struct_ir.specs.Pins.{facts, lacks, lacks_if, held_by, PinSafe}
-use Rattle.pin_flow.specs.Marks.{Mark, State, bad, Each}
+use Rattle.pin_flow.specs.Marks.{Mark, AllPaths, bad, Each}
 use Rattle.pin_flow.specs.Looks.{some_act, Uses, Covered, PinsExact}
 use Rattle.pin_flow.specs.Held.{held, fresh, pinned}
 use Rattle.pin_flow.specs.Slots.{own, IsOwn, IsIn, AreApart}
@@ -41,7 +41,7 @@ fresh_listing slot b (safepoint old) l v = refl
 fresh_listing slot b (begin_object i) l v = refl
 fresh_listing slot b (end_object i) l v = refl
 
-pub serves_listing : (slot b : ℕ) (a : Act) (l : List ℕ) (t : State) → Serves slot b a t → Serves slot b (act_listing a l) t
+pub serves_listing : (slot b : ℕ) (a : Act) (l : List ℕ) (t : AllPaths) → Serves slot b a t → Serves slot b (act_listing a l) t
 serves_listing slot b (set to calc) l t s = s
 serves_listing slot b (call c) l t s = s
 serves_listing slot b (step x) l t s = s
@@ -117,13 +117,13 @@ module _ (slot_of : ℕ → ℕ) (apart : AreApart slot_of) (bs : List ℕ) (ns 
       no_more false false z w e f g = refl
       no_more false true z w e f g = absurd (let h : false ≡ true = sym f ∙ e in cc)
 
-  unused : (b : ℕ) (m : Mark) (Q : Act → State → Type 0) → ((a : Act) (t : State) → uses (slot_of b) b a ≡ false → Q a t) → some_act (uses (slot_of b) b) ns ≡ false → Each Q m out bad
+  unused : (b : ℕ) (m : Mark) (Q : Act → AllPaths → Type 0) → ((a : Act) (t : AllPaths) → uses (slot_of b) b a ≡ false → Q a t) → some_act (uses (slot_of b) b) ns ≡ false → Each Q m out bad
   unused b m Q f e =
-      let all : Act → State → Type 0 = λ a t. Unit {0} in
+      let all : Act → AllPaths → Type 0 = λ a t. Unit {0} in
       each_weaker m all Q (uses (slot_of b) b) (λ a t g q. f a t g) out (out_uses (slot_of b) b ∙ e) bad (each_always m all (λ a t. tt) out bad)
 
   -- each act's own list has the slots of its accesses
-  Holds : ℕ → Act → State → Type 0
+  Holds : ℕ → Act → AllPaths → Type 0
   Holds b a t = uses (slot_of b) b a ≡ true → lacks_if (slot_of b) (held_by a) ≡ false
 
   each_holding : (b : ℕ) → Each (Holds b) (held b) out bad

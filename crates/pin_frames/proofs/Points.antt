@@ -2,7 +2,7 @@
 use Rattle.std.proofs.Common.{◌≡◌, ℕ, suc, ◌+◌, List, refl, sym, ◌∙◌}
 use Rattle.struct_ir.specs.Nodes.{Node, plain, if_, loop, break_, next_, ret, Nodes, no_nodes, more_nodes}
 use Rattle.struct_ir.specs.Structured.{node_size, row_size}
-use Rattle.pin_flow.specs.Marks.{State, head_of, end_state, flow}
+use Rattle.pin_flow.specs.Marks.{AllPaths, head_of, end_state, flow}
 use Rattle.pin_flow.specs.Held.{held}
 use Rattle.pin_flow.specs.Live.{Live, lives, head_live, latch_live, body_lives, latch_lives}
 use Rattle.pin_flow.specs.Points.{numbered, numbered_in}
@@ -12,11 +12,11 @@ use Rattle.pin_frames.proofs.Exact.{head_same, latch_same}
 
 module _ (slot_of : ℕ → ℕ) (bs : List ℕ) where
   mutual
-    size_listed : (ns : Nodes) (ts : ℕ → State) (ls : ℕ → Live) → row_size (listed slot_of bs ns ts ls) ≡ row_size ns
+    size_listed : (ns : Nodes) (ts : ℕ → AllPaths) (ls : ℕ → Live) → row_size (listed slot_of bs ns ts ls) ≡ row_size ns
     size_listed no_nodes ts ls = refl
     size_listed (more_nodes n rest) ts ls = λ j. size_in_listed n ts (rest_lives slot_of rest ls) j + size_listed rest (on_states n ts) ls j + 1
 
-    size_in_listed : (n : Node) (ts : ℕ → State) (ls : ℕ → Live) → node_size (listed_in slot_of bs n ts ls) ≡ node_size n
+    size_in_listed : (n : Node) (ts : ℕ → AllPaths) (ls : ℕ → Live) → node_size (listed_in slot_of bs n ts ls) ≡ node_size n
     size_in_listed (plain p a) ts ls = refl
     size_in_listed (if_ p x one other) ts ls = λ j. size_listed one ts ls j + size_listed other ts ls j + 1
     size_in_listed (loop p body latch) ts ls =
@@ -26,7 +26,7 @@ module _ (slot_of : ℕ → ℕ) (bs : List ℕ) where
     size_in_listed (ret p x) ts ls = refl
 
   mutual
-    pub numbered_listed : (i : ℕ) (ns : Nodes) (ts : ℕ → State) (ls : ℕ → Live) → numbered i (listed slot_of bs ns ts ls) ≡ listed slot_of bs (numbered i ns) ts ls
+    pub numbered_listed : (i : ℕ) (ns : Nodes) (ts : ℕ → AllPaths) (ls : ℕ → Live) → numbered i (listed slot_of bs ns ts ls) ≡ listed slot_of bs (numbered i ns) ts ls
     numbered_listed i no_nodes ts ls = refl
     numbered_listed i (more_nodes n rest) ts ls =
         let rl = rest_lives slot_of rest ls in
@@ -37,7 +37,7 @@ module _ (slot_of : ℕ → ℕ) (bs : List ℕ) where
         ∙ ((λ j. more_nodes (in_numbered i n ts rl j) (numbered_listed k rest (on_states n ts) ls j))
         ∙ (λ j. more_nodes (listed_in slot_of bs (numbered_in i n) ts (l j)) (listed slot_of bs (numbered k rest) (t j) ls)))
 
-    in_numbered : (i : ℕ) (n : Node) (ts : ℕ → State) (ls : ℕ → Live) → numbered_in i (listed_in slot_of bs n ts ls) ≡ listed_in slot_of bs (numbered_in i n) ts ls
+    in_numbered : (i : ℕ) (n : Node) (ts : ℕ → AllPaths) (ls : ℕ → Live) → numbered_in i (listed_in slot_of bs n ts ls) ≡ listed_in slot_of bs (numbered_in i n) ts ls
     in_numbered i (plain p a) ts ls = refl
     in_numbered i (if_ p x one other) ts ls =
         (λ j. if_ i x (numbered (suc i) (listed slot_of bs one ts ls)) (numbered (suc i + size_listed one ts ls j) (listed slot_of bs other ts ls)))

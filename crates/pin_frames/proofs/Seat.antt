@@ -2,7 +2,7 @@
 use Rattle.std.proofs.Common.{◌≡◌, ℕ, List, Bool, true, false, refl, sym, ap, subst, ◌∙◌}
 use Rattle.struct_ir.specs.Nodes.{Act, set, call, step, look, safepoint, begin_object, end_object, plain, if_, loop, break_, next_, ret, Nodes, no_nodes, more_nodes}
 use Rattle.struct_ir.specs.Erased.{is_kept, erased}
-use Rattle.pin_flow.specs.Marks.{Mark, State, bad, Each}
+use Rattle.pin_flow.specs.Marks.{Mark, AllPaths, bad, Each}
 use Rattle.pin_flow.specs.Looks.{act_looks, act_assigns, some_act, loops_assign}
 use Rattle.pin_flow.proofs.Strip.{sifted, some_sifted, loops_sifted, each_sifted, each_back, erased_sifted}
 use Rattle.pin_frames.specs.inner.Place.{stop, act_seats, seated}
@@ -68,11 +68,11 @@ some_seated f blind ns =
     let b = of_safe (λ a. f a ≡ false) blind in
     sym (some_sifted not_safe f b (sat ns)) ∙ (ap (some_act f) (sat_same ns) ∙ some_sifted not_safe f b ns)
 
-pub each_seated : (m : Mark) → ((slots : List ℕ) (v : Bool) → m (safepoint slots) v ≡ v) → (Q : Act → State → Type 0) → ((slots : List ℕ) (t : State) → Q (safepoint slots) t)
+pub each_seated : (m : Mark) → ((slots : List ℕ) (v : Bool) → m (safepoint slots) v ≡ v) → (Q : Act → AllPaths → Type 0) → ((slots : List ℕ) (t : AllPaths) → Q (safepoint slots) t)
     → (ns : Nodes) → Each Q m ns bad → Each Q m (sat ns) bad
 each_seated m idle Q known ns e =
     let i = of_safe (λ a. (v : Bool) → m a v ≡ v) idle in
-    each_back not_safe m i Q (of_safe (λ a. (t : State) → Q a t) known) (sat ns) bad
+    each_back not_safe m i Q (of_safe (λ a. (t : AllPaths) → Q a t) known) (sat ns) bad
     (subst (λ (x : Nodes). Each Q m x bad) (sym (sat_same ns)) (each_sifted not_safe m i Q ns bad e))
 
 pub loops_seated : (b : ℕ) (ns : Nodes) → loops_assign b (sat ns) ≡ loops_assign b ns

@@ -4,7 +4,7 @@ use Rattle.std.proofs.lemmas.Bool.{and_from, eq-eqb}
 use Rattle.std.specs.Prelude.{not, is_some}
 use Rattle.struct_ir.specs.Nodes.{Act, set, call, step, look, safepoint, begin_object, end_object, plain, if_, loop, break_, next_, ret, Nodes, no_nodes, more_nodes}
 use Rattle.struct_ir.specs.Valid.{last_list, same_slots, are_placed}
-use Rattle.pin_flow.specs.Marks.{State, flow}
+use Rattle.pin_flow.specs.Marks.{AllPaths, flow}
 use Rattle.pin_flow.specs.Live.{Live, live_act, live}
 use Rattle.pin_flow.proofs.Sound.{after_same}
 use Rattle.pin_frames.specs.inner.Place.{is_bad, wanted, stop, seated, list_for, on_states, rest_lives, listed, none_held, none_later, placed}
@@ -14,7 +14,7 @@ same_self [] = refl
 same_self (x ∷ l) = and_from _ _ (eq-eqb x x refl) (same_self l)
 
 module _ (slot_of : ℕ → ℕ) where
-  list_same : (a a' : Act) (ts ts' : ℕ → State) (later later' : ℕ → Bool) → ((b : ℕ) → wanted slot_of b a (ts b) (later b) ≡ wanted slot_of b a' (ts' b) (later' b)) → (bs : List ℕ)
+  list_same : (a a' : Act) (ts ts' : ℕ → AllPaths) (later later' : ℕ → Bool) → ((b : ℕ) → wanted slot_of b a (ts b) (later b) ≡ wanted slot_of b a' (ts' b) (later' b)) → (bs : List ℕ)
       → list_for slot_of bs a ts later ≡ list_for slot_of bs a' ts' later'
   list_same a a' ts ts' later later' h [] = refl
   list_same a a' ts ts' later later' h (b ∷ bs) = let r = list_same a a' ts ts' later later' h bs in λ i. if h b i then slot_of b ∷ r i else r i
@@ -22,14 +22,14 @@ module _ (slot_of : ℕ → ℕ) where
   module _ (bs : List ℕ) where
     -- whatever stands before it
     abbrev Stands : Nodes → Type 0
-    Stands ns = (before : Option (List ℕ)) (ts : ℕ → State) (ls : ℕ → Live) → are_placed before (listed slot_of bs ns ts ls) ≡ true
+    Stands ns = (before : Option (List ℕ)) (ts : ℕ → AllPaths) (ls : ℕ → Live) → are_placed before (listed slot_of bs ns ts ls) ≡ true
 
     -- it ends in a safepoint
     abbrev Ends : Nodes → Type 0
-    Ends ns = (before : Option (List ℕ)) (ts : ℕ → State) (ls : ℕ → Live) → is_some (last_list before (listed slot_of bs ns ts ls)) ≡ true
+    Ends ns = (before : Option (List ℕ)) (ts : ℕ → AllPaths) (ls : ℕ → Live) → is_some (last_list before (listed slot_of bs ns ts ls)) ≡ true
 
     -- the list of a call is that of the safepoint before it
-    call_list : (p : ℕ) (c : Rattle.struct_ir.specs.Nodes.Call) (rest : Nodes) (ts : ℕ → State) (ls : ℕ → Live)
+    call_list : (p : ℕ) (c : Rattle.struct_ir.specs.Nodes.Call) (rest : Nodes) (ts : ℕ → AllPaths) (ls : ℕ → Live)
         → list_for slot_of bs (safepoint []) ts (λ b. live_act (slot_of b) b (safepoint []) (rest_lives slot_of (more_nodes (plain p (call c)) rest) ls b).on)
         ≡ list_for slot_of bs (call c) (on_states (stop p) ts) (λ b. live_act (slot_of b) b (call c) (rest_lives slot_of rest ls b).on)
     unfolding live flow

@@ -5,7 +5,7 @@ use Rattle.struct_ir.specs.Nodes.{Act, set, call, step, look, safepoint, begin_o
 use Rattle.std.specs.List.{list_all}
 use Rattle.struct_ir.specs.Pins.{lacks}
 use Rattle.struct_ir.specs.Valid.{Scope, Around, body_of, latch_of, are_below, is_distinct, is_list, is_own_list, is_place, is_below_if, has_counts, counts_of, is_action, is_act, is_node, are_nodes}
-use Rattle.pin_flow.specs.Marks.{State}
+use Rattle.pin_flow.specs.Marks.{AllPaths}
 use Rattle.pin_flow.specs.Looks.{some_act}
 use Rattle.pin_flow.specs.Live.{Live, live_act, body_lives, latch_lives}
 use Rattle.pin_flow.specs.Slots.{accesses, bases_below, IsIn, AreApart}
@@ -38,14 +38,14 @@ module _ (x : Scope) (slot_of : ℕ → ℕ) (apart : AreApart slot_of) where
   abbrev pub AreSlots : List ℕ → Type 0
   AreSlots bs = (b : ℕ) → IsIn bs b → slot_of b < x.slots
 
-  list_below : (a : Act) (ts : ℕ → State) (later : ℕ → Bool) (bs : List ℕ) → AreSlots bs → are_below x.slots (list_for slot_of bs a ts later) ≡ true
+  list_below : (a : Act) (ts : ℕ → AllPaths) (later : ℕ → Bool) (bs : List ℕ) → AreSlots bs → are_below x.slots (list_for slot_of bs a ts later) ≡ true
   list_below a ts later [] h = refl
   list_below a ts later (b ∷ bs) h =
       let l = list_for slot_of bs a ts later in
       let r = list_below a ts later bs (λ c i. h c (inr i)) in
       by_bool (λ y. are_below x.slots (if y then slot_of b ∷ l else l) ≡ true) (wanted slot_of b a (ts b) (later b)) (λ e. and_from _ _ (lt-ltb (slot_of b) x.slots (h b (inl refl))) r) (λ e. r)
 
-  list_once : (a : Act) (ts : ℕ → State) (later : ℕ → Bool) (bs : List ℕ) → AreOnce bs → is_distinct (list_for slot_of bs a ts later) ≡ true
+  list_once : (a : Act) (ts : ℕ → AllPaths) (later : ℕ → Bool) (bs : List ℕ) → AreOnce bs → is_distinct (list_for slot_of bs a ts later) ≡ true
   list_once a ts later [] o = refl
   list_once a ts later (b ∷ bs) o =
       let l = list_for slot_of bs a ts later in
@@ -55,7 +55,7 @@ module _ (x : Scope) (slot_of : ℕ → ℕ) (apart : AreApart slot_of) where
       by_bool (λ y. is_distinct (if y then slot_of b ∷ l else l) ≡ true) (wanted slot_of b a (ts b) (later b)) (λ e. and_from _ _ new r) (λ e. r)
 
   module _ (bs : List ℕ) (once : AreOnce bs) (slots : AreSlots bs) where
-    list_fine : (a : Act) (ts : ℕ → State) (later : ℕ → Bool) → is_list x (list_for slot_of bs a ts later) ≡ true
+    list_fine : (a : Act) (ts : ℕ → AllPaths) (later : ℕ → Bool) → is_list x (list_for slot_of bs a ts later) ≡ true
     list_fine a ts later = and_from _ _ (list_below a ts later bs slots) (list_once a ts later bs once)
 
     own_fine : (action : Rattle.struct_ir.specs.Nodes.Action) (l : List ℕ) → is_list x l ≡ true → is_own_list x action (if may_wait action then l else []) ≡ true
@@ -80,13 +80,13 @@ module _ (x : Scope) (slot_of : ℕ → ℕ) (apart : AreApart slot_of) where
     act_fine (end_object i) l e h = h
 
     mutual
-      pub valid_listed : (w : Around) (ns : Nodes) (ts : ℕ → State) (ls : ℕ → Live) → are_nodes x w ns ≡ true → are_nodes x w (listed slot_of bs ns ts ls) ≡ true
+      pub valid_listed : (w : Around) (ns : Nodes) (ts : ℕ → AllPaths) (ls : ℕ → Live) → are_nodes x w ns ≡ true → are_nodes x w (listed slot_of bs ns ts ls) ≡ true
       valid_listed w no_nodes ts ls e = refl
       valid_listed w (more_nodes n rest) ts ls e =
           let p = and_parts (is_node x w n) (are_nodes x w rest) e in
           and_from _ _ (in_valid_listed w n ts (rest_lives slot_of rest ls) p.0) (valid_listed w rest (on_states n ts) ls p.1)
 
-      in_valid_listed : (w : Around) (n : Node) (ts : ℕ → State) (ls : ℕ → Live) → is_node x w n ≡ true → is_node x w (listed_in slot_of bs n ts ls) ≡ true
+      in_valid_listed : (w : Around) (n : Node) (ts : ℕ → AllPaths) (ls : ℕ → Live) → is_node x w n ≡ true → is_node x w (listed_in slot_of bs n ts ls) ≡ true
       in_valid_listed w (plain p a) ts ls e =
           let later : ℕ → Bool = λ b. live_act (slot_of b) b a (ls b).on in
           act_fine a (list_for slot_of bs a ts later) (list_fine a ts later) e

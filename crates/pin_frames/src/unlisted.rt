@@ -4,7 +4,7 @@ ghost use Rattle.std.specs.Prelude.{◌≡◌, ◌&&◌, ◌||◌, not, true, If
 ghost use Rattle.struct_ir.specs.Views.{node_view, nodes_view};
 ghost use Rattle.pin_flow.specs.Live.{live, live_node};
 ghost use Rattle.pin_flow.specs.Live as lively;
-ghost use Rattle.pin_flow.specs.Marks.{State};
+ghost use Rattle.pin_flow.specs.Marks.{AllPaths};
 ghost use Rattle.pin_flow.specs.Views.{act_is, looks_slot};
 ghost use Rattle.pin_frames.specs.Views.{lives_view};
 ghost use Rattle.pin_frames.specs.inner.Place.{has_list, listed_one, listed_one_in};
@@ -48,7 +48,7 @@ fn free_alone(slot: u32, b: u32, n: &Node, later: bool) -> Option<bool>
 #[cycle(frees)]
 pub(crate) fn free_row(slot: u32, b: u32, rows: &[Node], after: Lives) -> Option<bool>
     ensures live { IfSome result (λ on. on ≡ live slot b (nodes_view rows.now) (lives_view after)) }
-    ensures free { IfSome result (λ on. (t : State) → listed_one slot b (nodes_view rows.now) t (lives_view after) ≡ nodes_view rows.now) }
+    ensures free { IfSome result (λ on. (t : AllPaths) → listed_one slot b (nodes_view rows.now) t (lives_view after) ≡ nodes_view rows.now) }
 {
     let mut left = rows;
     let mut on = after.on;
@@ -62,7 +62,7 @@ pub(crate) fn free_row(slot: u32, b: u32, rows: &[Node], after: Lives) -> Option
 #[cycle(frees)]
 fn free_node(slot: u32, b: u32, n: &Node, after: Lives) -> Option<bool>
     ensures live { IfSome result (λ on. on ≡ live_node slot b (node_view n.now) (lives_view after)) }
-    ensures free { IfSome result (λ on. (t : State) → listed_one_in slot b (node_view n.now) t (lives_view after) ≡ node_view n.now) }
+    ensures free { IfSome result (λ on. (t : AllPaths) → listed_one_in slot b (node_view n.now) t (lives_view after) ≡ node_view n.now) }
 {
     match &n.kind {
         NodeKind::If(_, one, other) => {

@@ -4,7 +4,7 @@ use Rattle.std.proofs.Math.Nat.{eq-or-lt_of_le}
 use Rattle.race_rules.specs.declared.touch.Touch.{Touch}
 use Rattle.race_rules.specs.declared.touch.TouchKind.{TouchKind}
 use Rattle.race_rules.specs.declared.touch.TouchKind.TheVariants.{Read, Write, AtomicRead, AtomicWrite, Lock, Unlock, Start, Join}
-use Rattle.race_rules.specs.Turns.{Turn, Has, Reaches}
+use Rattle.race_rules.specs.Turns.{Turn, Has, CoversCell}
 use Rattle.race_rules.specs.Turns.Has.{here, later}
 use Rattle.race_rules.specs.Order.{Directly, Orders, Hands, Passes, IsJoin}
 use Rattle.race_rules.specs.Order.Orders.{same_thread, starts, joins, hands, passes}
@@ -33,7 +33,7 @@ orders_of y x (inr (inr h)) = passes (has_swap h)
 -- a cell that one of them wrote and the touch reads
 record Passed (a : Touch) (ys : List Touch) : Type 0 where
   cell : ℕ
-  reads : Reaches a a.block cell
+  reads : CoversCell a a.block cell
   wrote : Has (IsAtomicWriteOf a.block cell) ys
 
 passed : (a : Touch) (ys : List Touch) → Has (λ b. Passes b a) ys → Passed a ys

@@ -6,7 +6,7 @@ use Rattle.std.proofs.lemmas.Bool.{leb-true, le-leb}
 use Rattle.race_rules.specs.declared.touch.Touch.{Touch}
 use Rattle.race_rules.specs.declared.touch.TouchKind.{TouchKind}
 use Rattle.race_rules.specs.declared.touch.TouchKind.TheVariants.{Read, Write, AtomicRead, AtomicWrite, Lock, Unlock, Start, Join}
-use Rattle.race_rules.specs.Turns.{Has, Reaches}
+use Rattle.race_rules.specs.Turns.{Has, CoversCell}
 use Rattle.race_rules.specs.Turns.Has.{here, later}
 use Rattle.race_rules.specs.Order.{IsStart}
 use Rattle.race_rules.specs.Sound.{IsRelease, IsAtomicWriteOf}
@@ -73,7 +73,7 @@ release_tells block from to a =
 le_tells : (a b : ℕ) → Decides (nat_le a b) (a ≤ b)
 le_tells a b = (leb-true a b, le-leb a b)
 
-pub reach_tells : (a : Touch) (block cell : ℕ) → Decides (is_of a block cell) (Reaches a block cell)
+pub reach_tells : (a : Touch) (block cell : ℕ) → Decides (is_of a block cell) (CoversCell a block cell)
 reach_tells a block cell =
     Decides-like _ (λ h. record { in_block = h.0; from_here = h.1.0; up_to = h.1.1 })
     (λ r. (r.in_block, (r.from_here, r.up_to))) (Decides-and _ _ (Decides-eqb a.block block) (Decides-and _ _ (le_tells a.from cell) (Decides-ltb cell a.to)))

@@ -5,7 +5,7 @@ use Rattle.race_rules.specs.declared.touch.Seen.{Seen}
 use Rattle.race_rules.specs.declared.touch.Touch.{Touch}
 use Rattle.race_rules.specs.declared.touch.TouchKind.{TouchKind}
 use Rattle.race_rules.specs.Kinds.{is_access, clash, outdoes}
-use Rattle.race_rules.specs.Turns.{Turn, Has, Reaches}
+use Rattle.race_rules.specs.Turns.{Turn, Has, CoversCell}
 use Rattle.race_rules.specs.Races.{Second}
 use Rattle.race_rules.specs.Clocks.{Clock, Clocks, AtOrBefore, is_of}
 use Rattle.race_rules.specs.Sound.{Sound}
@@ -48,13 +48,13 @@ pub record Clashes (v : Clock) (κ : TouchKind) (s : Seen) : Type 0 where
 -- a touch clashes with what was seen at one of its cells
 pub record Caught (v : Clock) (h : History) (a : Touch) : Type 0 where
   pub cell : ℕ
-  pub there : Reaches a a.block cell
+  pub there : CoversCell a a.block cell
   pub by : Has (Clashes v a.kind) (h a.block cell)
 
 -- a touch of this kind at this cell
 pub record At (block cell : ℕ) (κ : TouchKind) (a : Touch) : Type 0 where
   pub kind_is : a.kind ≡ κ
-  pub there : Reaches a block cell
+  pub there : CoversCell a block cell
 
 -- one of the first k turns touched the cell so
 pub record Real (ts : List Turn) (k block cell : ℕ) (s : Seen) : Type 0 where

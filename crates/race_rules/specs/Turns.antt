@@ -17,7 +17,7 @@ abbrev pub Pair : (Touch → Touch → Type 0) → Turn → Turn → Type 0
 Pair R x y = Has (λ a. Has (λ b. R a b) y.touches) x.touches
 
 -- the touch is of this cell of this block
-pub record Reaches (a : Touch) (block cell : ℕ) : Type 0 where
+pub record CoversCell (a : Touch) (block cell : ℕ) : Type 0 where
   pub in_block : a.block ≡ block
   pub from_here : a.from ≤ cell
   pub up_to : cell < a.to
@@ -26,5 +26,5 @@ pub record Reaches (a : Touch) (block cell : ℕ) : Type 0 where
 pub record Meet (a b : Touch) : Type 0 where
   pub block : ℕ
   pub cell : ℕ
-  pub first : Reaches a block cell
-  pub second : Reaches b block cell
+  pub first : CoversCell a block cell
+  pub second : CoversCell b block cell

@@ -8,7 +8,7 @@ use Rattle.struct_ir.specs.Erased.{erased}
 use Rattle.struct_ir.specs.Placed.{all_placed}
 use Rattle.struct_ir.specs.Valid.{is_valid}
 use Rattle.pin_flow.specs.Held.{held}
-use Rattle.pin_flow.specs.Marks.{State, unreached, good, bad, flow}
+use Rattle.pin_flow.specs.Marks.{AllPaths, unreached, good, bad, flow}
 use Rattle.pin_flow.specs.Slots.{bases_of, slot_if}
 
 -- a row of these nodes
@@ -46,7 +46,7 @@ abbrev pub is_fine : Node → Bool
 is_fine n = is_valid (program (n ∷ []))
 
 -- what the paths to the end of the nodes say of a register: whether a slot has its word
-abbrev pub held_behind : (b : ℕ) → List Node → State
+abbrev pub held_behind : (b : ℕ) → List Node → AllPaths
 held_behind b nodes = (flow (held b) (row nodes) bad).on
 
 -- a Look of register 1, and a loop that may be left before each step

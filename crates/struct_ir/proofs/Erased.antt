@@ -2,7 +2,7 @@
 use Rattle.std.proofs.Common.{◌≡◌, ℕ, Bool, true, false, refl, sym, ap, subst, ◌∙◌, ◌⊎◌, inl, inr}
 use Rattle.struct_ir.specs.Nodes.{Act, set, call, step, look, safepoint, begin_object, end_object, plain, if_, loop, break_, next_, ret, Nodes, no_nodes, more_nodes}
 use Rattle.struct_ir.specs.Structured.{Position, done, then_, in_body, in_latch, out_of, end_of, next, structured}
-use Rattle.struct_ir.specs.Machine.{Machine, Point, goes, stopped_or, acted}
+use Rattle.struct_ir.specs.Machine.{Machine, Point, goes, stopped_or, after_act}
 use Rattle.struct_ir.specs.Maps.{Carries, Vanishes, IsMap}
 use Rattle.struct_ir.specs.MapsTurns.{thread_mapped, IsMapped}
 use Rattle.struct_ir.specs.Threads.{turn}
@@ -47,9 +47,9 @@ module _ {L F : Type 0} (M : Machine L F) (idle : LooksAreIdle M) where
       inr (record {
         idle = λ l.
             let at : Point Position L = record { at = then_ rest k; own = l } in
-            let once : stopped_or (M.stops a) (acted (then_ rest k) (M.does p a l)) ≡ goes at
-            = ap (λ (s : Bool). stopped_or s (acted (then_ rest k) (M.does p a l))) i.0 ∙ ap (acted (then_ rest k)) (i.1 p l) in
-            subst (λ (x : Act). stopped_or (M.stops x) (acted (then_ rest k) (M.does p x l)) ≡ goes at) (sym (still_idle a e)) once;
+            let once : stopped_or (M.stops a) (after_act (then_ rest k) (M.does p a l)) ≡ goes at
+            = ap (λ (s : Bool). stopped_or s (after_act (then_ rest k) (M.does p a l))) i.0 ∙ ap (after_act (then_ rest k)) (i.1 p l) in
+            subst (λ (x : Act). stopped_or (M.stops x) (after_act (then_ rest k) (M.does p x l)) ≡ goes at) (sym (still_idle a e)) once;
         there = rw e refl;
       })
 

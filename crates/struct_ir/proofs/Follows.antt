@@ -2,7 +2,7 @@
 use Rattle.std.proofs.Common.{◌≡◌, ℕ, zero, suc, ◌<◌, List, [], ◌∷◌, Bool, true, refl, sym, ap, subst, ◌∙◌, arith}
 use Rattle.struct_ir.specs.Nodes.{Act, set, call, step, look, safepoint, begin_object, end_object}
 use Rattle.struct_ir.specs.Flow.{Here, does, tests, passes, round, returns, GoesOn, Stays, Flow, Shrinks, Path, entry, on}
-use Rattle.struct_ir.specs.Machine.{Machine, goes, stopped_or, acted, ahead_at}
+use Rattle.struct_ir.specs.Machine.{Machine, goes, stopped_or, after_act, ahead_at}
 use Rattle.struct_ir.specs.Mirrors.{Both, IsIdle, Match, both, first, IsMirror}
 use Rattle.struct_ir.specs.Marks.{is_lifetime_mark, LifetimeMarksAreIdle, IsUnseen, FollowsAt, both_go, first_goes, Follows}
 use Rattle.struct_ir.specs.Pins.{passing, doing, facts, IsPinned, PinSafe}
@@ -13,7 +13,7 @@ module _ {P L F : Type 0} (C : Flow P) (M : Machine L F) (idle : LifetimeMarksAr
   unseen_ahead : (h : Here) → IsUnseen h → (l : L) → ahead_at C M (record { at = k; own = l }) h ≡ goes (record { at = C.next k true; own = l })
   unseen_ahead (does place a) u l =
       let i = idle a u in
-      ap (λ (s : Bool). stopped_or s (acted (C.next k true) (M.does place a l))) i.0 ∙ ap (acted (C.next k true)) (i.1 place l)
+      ap (λ (s : Bool). stopped_or s (after_act (C.next k true) (M.does place a l))) i.0 ∙ ap (after_act (C.next k true)) (i.1 place l)
   unseen_ahead (tests place temp) u l = absurd u
   unseen_ahead passes u l = refl
   unseen_ahead round u l = absurd u

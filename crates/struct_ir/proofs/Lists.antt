@@ -2,7 +2,7 @@
 use Rattle.std.proofs.Common.{◌≡◌, ℕ, zero, suc, List, [], ◌∷◌, true, Option, refl, ap, ◌∙◌}
 use Rattle.struct_ir.specs.Nodes.{Act, set, call, step, look, safepoint, begin_object, end_object}
 use Rattle.struct_ir.specs.Flow.{Here, does, tests, passes, round, returns, Flow, GoesOn, Shrinks}
-use Rattle.struct_ir.specs.Machine.{Machine, Point, Ahead, goes, stops, breaks, acted, stopped_or, further, ahead_at, ahead, run_within, run}
+use Rattle.struct_ir.specs.Machine.{Machine, Point, Ahead, goes, stops, breaks, after_act, stopped_or, further, ahead_at, ahead, run_within, run}
 use Rattle.struct_ir.specs.Threads.{Environment, Thread, Outcome, went, ended, blocked, broke, unfit, result_to, alone, served, if_fits, entered_or_served, back_in, left_call, stop_at, stop_event, and_then, turn}
 use Rattle.struct_ir.specs.Lists.{bare_act, bare_here, listless, IgnoresLists, ListsAreNothing}
 
@@ -12,8 +12,8 @@ module _ {P L F S A : Type 0} (C : Flow P) (M : Machine L F) (W : Environment L 
 
   at_same : (p : Point P L) (h : Here) → ahead_at D M p (bare_here h) ≡ ahead_at C M p h
   at_same p (does place a) =
-      ap (λ b. stopped_or b (acted (C.next p.at true) (M.does place (bare_act a) p.own))) (ignores.stops a)
-      ∙ ap (λ r. stopped_or (M.stops a) (acted (C.next p.at true) r)) (ignores.does place a p.own)
+      ap (λ b. stopped_or b (after_act (C.next p.at true) (M.does place (bare_act a) p.own))) (ignores.stops a)
+      ∙ ap (λ r. stopped_or (M.stops a) (after_act (C.next p.at true) r)) (ignores.does place a p.own)
   at_same p (tests place temp) = refl
   at_same p passes = refl
   at_same p round = refl

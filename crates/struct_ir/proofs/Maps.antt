@@ -1,7 +1,7 @@
 -- A map of code maps its runs.
 use Rattle.std.proofs.Common.{◌≡◌, ℕ, zero, suc, ◌<◌, Bool, true, false, Result, Ok, Err, refl, sym, ap, ◌∙◌, arith, ◌⊎◌, inl, inr}
 use Rattle.struct_ir.specs.Flow.{Here, does, tests, passes, round, returns, Flow, Shrinks}
-use Rattle.struct_ir.specs.Machine.{Machine, Point, Ahead, goes, stops, breaks, acted, tested, stopped_or, ahead_at, ahead, further, run}
+use Rattle.struct_ir.specs.Machine.{Machine, Point, Ahead, goes, stops, breaks, after_act, tested, stopped_or, ahead_at, ahead, further, run}
 use Rattle.struct_ir.specs.Maps.{point_mapped, end_mapped, Carries, Vanishes, IsMap, MapsRuns}
 use Rattle.struct_ir.specs.Laws.{MapsMapRuns}
 use Rattle.struct_ir.proofs.Runs.{unfolds, smaller}
@@ -15,7 +15,7 @@ module _ {P Q L F : Type 0} (C : Flow P) (D : Flow Q) (M : Machine L F) (f : P �
   on_map stops = stops
   on_map (breaks e) = breaks e
 
-  acted_same : (k : P) (s : Bool) (r : Result L F) → stopped_or s (acted (f k) r) ≡ on_map (stopped_or s (acted k r))
+  acted_same : (k : P) (s : Bool) (r : Result L F) → stopped_or s (after_act (f k) r) ≡ on_map (stopped_or s (after_act k r))
   acted_same k true r = refl
   acted_same k false (Ok l) = refl
   acted_same k false (Err e) = refl
@@ -25,7 +25,7 @@ module _ {P Q L F : Type 0} (C : Flow P) (D : Flow Q) (M : Machine L F) (f : P �
   tested_same p on (Err e) = refl
 
   at_same : (p : Point P L) → ((c : Bool) → D.next (f p.at) c ≡ f (C.next p.at c)) → (h : Here) → ahead_at D M (carried p) h ≡ on_map (ahead_at C M p h)
-  at_same p on (does place a) = ap (λ (k : Q). stopped_or (M.stops a) (acted k (M.does place a p.own))) (on true) ∙ acted_same (C.next p.at true) (M.stops a) (M.does place a p.own)
+  at_same p on (does place a) = ap (λ (k : Q). stopped_or (M.stops a) (after_act k (M.does place a p.own))) (on true) ∙ acted_same (C.next p.at true) (M.stops a) (M.does place a p.own)
   at_same p on (tests place t) = tested_same p on (M.test place t p.own)
   at_same p on passes = ap (λ (k : Q). goes (record { at = k; own = p.own })) (on true)
   at_same p on round = refl

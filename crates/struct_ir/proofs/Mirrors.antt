@@ -1,7 +1,7 @@
 -- Codes that mirror each other have the same runs.
 use Rattle.std.proofs.Common.{◌≡◌, ℕ, zero, suc, ◌+◌, ◌<◌, Bool, true, false, Result, Ok, Err, refl, sym, ap, subst, ◌∙◌, arith}
 use Rattle.struct_ir.specs.Flow.{Here, does, tests, passes, round, returns, Flow, Stays, Shrinks}
-use Rattle.struct_ir.specs.Machine.{Machine, Point, Ahead, goes, stops, breaks, acted, tested, stopped_or, ahead_at, ahead, further, run}
+use Rattle.struct_ir.specs.Machine.{Machine, Point, Ahead, goes, stops, breaks, after_act, tested, stopped_or, ahead_at, ahead, further, run}
 use Rattle.struct_ir.specs.Mirrors.{Both, Match, both, first, second, IsMirror, EndAlike, MirrorsRuns}
 use Rattle.struct_ir.proofs.Runs.{unfolds, smaller}
 
@@ -16,7 +16,7 @@ module _ {P Q L F : Type 0} (C : Flow P) (D : Flow Q) (M : Machine L F) (R : P �
   abbrev Nexts : Type 0
   Nexts = (c : Bool) → R (C.next k c) (D.next j c)
 
-  acted_alike : Nexts → (s : Bool) (x : Result L F) → Alike (stopped_or s (acted (C.next k true) x)) (stopped_or s (acted (D.next j true) x))
+  acted_alike : Nexts → (s : Bool) (x : Result L F) → Alike (stopped_or s (after_act (C.next k true) x)) (stopped_or s (after_act (D.next j true) x))
   acted_alike on true x = tt
   acted_alike on false (Ok l) = (refl, on true)
   acted_alike on false (Err f) = refl

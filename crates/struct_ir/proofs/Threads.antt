@@ -2,7 +2,7 @@
 use Rattle.std.proofs.Common.{◌≡◌, ℕ, List, [], ◌∷◌, Bool, true, false, Option, Result, Ok, Err, refl, sym, ap, subst, ◌∙◌}
 use Rattle.struct_ir.specs.Nodes.{Act, call}
 use Rattle.struct_ir.specs.Flow.{Here, does, tests, passes, round, returns, Flow, Stays, IsCall, Shrinks}
-use Rattle.struct_ir.specs.Machine.{Machine, Point, stops, stopped_or, acted, ahead_at, ahead, run, Steps, still, more, starts, walks, resumes, changes}
+use Rattle.struct_ir.specs.Machine.{Machine, Point, stops, stopped_or, after_act, ahead_at, ahead, run, Steps, still, more, starts, walks, resumes, changes}
 use Rattle.struct_ir.specs.Threads.{Served, serves, waits, refuses, fails, Environment, Thread, Outcome, behind, alone, served, finished, if_fits, entered_or_served, left_call, stop_at, HasCome, Waits, AllWait, AllCome, IfWent, KeepsWays, EventsKeepWays}
 use Rattle.struct_ir.proofs.Runs.{runs_are_steps}
 
@@ -69,7 +69,7 @@ module _ {P L F S A : Type 0} (C : Flow P) (shrinks : Shrinks C) (M : Machine L 
   stop_keeps : (answer : A) (t : Thread P L) (s : S) → AllCome C M code t → (h : Here) → C.here t.top.at ≡ h → IfWent {F = F} (AllCome C M code) (stop_at C M W code answer t s h)
   stop_keeps answer t s a (does place x) e =
       if_keeps (M.stops x) _ (λ on.
-      let stands : ahead C M t.top ≡ stops = ap (ahead_at C M t.top) e ∙ ap (λ (b : Bool). stopped_or b (acted (C.next t.top.at true) (M.does place x t.top.own))) on in
+      let stands : ahead C M t.top ≡ stops = ap (ahead_at C M t.top) e ∙ ap (λ (b : Bool). stopped_or b (after_act (C.next t.top.at true) (M.does place x t.top.own))) on in
       act_keeps answer t s a (record { come = a.top; stands = stands; stays = subst Stays (sym e) tt }) place x e)
   stop_keeps answer t s a (tests place temp) e = tt
   stop_keeps answer t s a passes e = tt

@@ -7,7 +7,7 @@ use Rattle.struct_ir.specs.Structured.{done, then_, structured}
 use Rattle.struct_ir.specs.Lists.{bare_place, bare_act}
 use Rattle.struct_ir.specs.Erased.{is_kept, put, erased}
 use Rattle.struct_ir.specs.Pins.{Among}
-use Rattle.pin_flow.specs.Marks.{State, unreached, good, bad, state_of, after, flow, Each, EachIn}
+use Rattle.pin_flow.specs.Marks.{AllPaths, unreached, good, bad, state_of, after, flow, Each, EachIn}
 use Rattle.pin_flow.specs.Looks.{some_act, some_in, act_looks, Covered, Uses}
 use Rattle.pin_flow.specs.Held.{held, fresh}
 use Rattle.pin_flow.specs.Slots.{has_base, accesses, slot_in, slot_if, one_more, IsIn, own, all_own, IsOwn, AreApart}
@@ -236,20 +236,20 @@ module _ (slot_of : ℕ → ℕ) where
   -- ---- each access has its Look
 
   module _ (c : ℕ) where
-    abbrev Q : Act → State → Type 0
+    abbrev Q : Act → AllPaths → Type 0
     Q a t = Serves (slot_of c) c a t
 
-    fine_look : (s base : ℕ) (t : State) → t ≢ bad → after (held c (look s base)) t ≢ bad
+    fine_look : (s base : ℕ) (t : AllPaths) → t ≢ bad → after (held c (look s base)) t ≢ bad
     fine_look s base unreached h = λ e. absurd cc
     fine_look s base good h = by_bool (λ x. state_of (x || true) ≢ bad) (base == c) (λ g e. absurd cc) (λ g e. absurd cc)
     fine_look s base bad h = absurd (h refl)
 
-    own_look : (s base : ℕ) (t : State) → (base == c) ≡ true → after (held c (look s base)) t ≢ bad
+    own_look : (s base : ℕ) (t : AllPaths) → (base == c) ≡ true → after (held c (look s base)) t ≢ bad
     own_look s base unreached x = λ e. absurd cc
     own_look s base good x = rw x (λ e. absurd cc)
     own_look s base bad x = rw x (λ e. absurd cc)
 
-    served : (p : ℕ) (list : List Place) (rest : Nodes) (t : State) → ((u : State) → (has_base c list ≡ true → u ≢ bad) → (t ≢ bad → u ≢ bad) → Each Q (held c) rest u) → Each Q (held c) (with_looks T p list rest) t
+    served : (p : ℕ) (list : List Place) (rest : Nodes) (t : AllPaths) → ((u : AllPaths) → (has_base c list ≡ true → u ≢ bad) → (t ≢ bad → u ≢ bad) → Each Q (held c) rest u) → Each Q (held c) (with_looks T p list rest) t
     unfolding flow
     served p [] rest t f = f t (λ i. absurd (let x : false ≡ true = i in cc)) (λ h. h)
     served p (a ∷ others) rest t f = (
@@ -274,12 +274,12 @@ module _ (slot_of : ℕ → ℕ) where
     act_base (end_object i) u = absurd u.1
 
     mutual
-      each_inserted : (ns : Nodes) (t : State) → Each Q (held c) (inserted T ns) t
+      each_inserted : (ns : Nodes) (t : AllPaths) → Each Q (held c) (inserted T ns) t
       each_inserted no_nodes t = tt
       each_inserted (more_nodes n rest) t =
           served (node_place n) (places_in n) (more_nodes (inserted_in T n) (inserted T rest)) t (λ u h k. (in_inserted n u h, each_inserted rest _))
 
-      in_inserted : (n : Node) (t : State) → (has_base c (places_in n) ≡ true → t ≢ bad) → EachIn Q (held c) (inserted_in T n) t
+      in_inserted : (n : Node) (t : AllPaths) → (has_base c (places_in n) ≡ true → t ≢ bad) → EachIn Q (held c) (inserted_in T n) t
       in_inserted (plain p a) t h = λ i. h (act_base a i)
       in_inserted (if_ p x one other) t h = (each_inserted one t, each_inserted other t)
       in_inserted (loop p body latch) t h = (each_inserted body _, each_inserted latch _)

@@ -8,7 +8,7 @@ use Rattle.ak_trace.specs.declared.entry.Entry.{Entry}
 use Rattle.ak_trace.specs.declared.endings.End.{End}
 use Rattle.ak_trace.specs.declared.endings.End.TheVariants.{TurnLimit}
 use Rattle.flat_rules.specs.Machine.{Machine, cleared, sweep}
-use Rattle.flat_rules.specs.States.{State, Place, unbegun, home, out, gone, Mood, free, asked, must, place_at, at_home, homes_of, is_out, is_wanted, none_out, pick, or_else}
+use Rattle.flat_rules.specs.States.{RunState, Place, unbegun, home, out, gone, Mood, free, asked, must, place_at, at_home, homes_of, is_out, is_wanted, none_out, pick, or_else}
 use Rattle.flat_rules.specs.Events.{most_local}
 use Rattle.flat_rules.specs.Lawful.{IsFlat, IsOpened, Begins}
 use Rattle.flat_rules.specs.Replays.{settled}
@@ -17,7 +17,7 @@ use Rattle.flat_rules.proofs.Spares.{spare_is_left}
 use Rattle.flat_rules.proofs.Clearing.{sweeps_on}
 use Rattle.world_rules.specs.declared.calls.Call.{Call}
 use Rattle.world_rules.specs.declared.calls.Call.TheVariants as call
-use Rattle.world_rules.specs.Whole.{Whole, Leads, Replays, Reaches, whole_of}
+use Rattle.world_rules.specs.Whole.{Whole, Leads, Replays, LeadsFromOpening, whole_of}
 use Rattle.world_rules.specs.Calls.{Result, end_before, home_at}
 use Rattle.world_rules.specs.Calls as calls
 use Rattle.world_rules.specs.Allowed.{IsOut, MovedOn, MayCall, Allowed}
@@ -37,19 +37,19 @@ module _ {S K C : Type 0} (machine : K → Machine S C) (first : Whole S K C) wh
   m = machine first.code
 
   -- one journal leads to one state
-  pub one_state : (log : List Entry) (s s' : State S C) → Leads machine first log s → Leads machine first log s' → s ≡ s'
+  pub one_state : (log : List Entry) (s s' : RunState S C) → Leads machine first log s → Leads machine first log s' → s ≡ s'
   one_state log s s' a b = let e : Some s ≡ Some s' = sym a.runs ∙ b.runs in cc e
 
   module _ (SharedOf : S → Type 0) (ContextOf : C → Type 0) (flat : IsFlat m SharedOf ContextOf) where
     -- a state that a journal leads to, with its spare
-    pub stands_of : (log : List Entry) (s : State S C) → IsOpened m SharedOf first.shared → Leads machine first log s → Stands machine first log s
+    pub stands_of : (log : List Entry) (s : RunState S C) → IsOpened m SharedOf first.shared → Leads machine first log s → Stands machine first log s
     stands_of log s opened r = record {
       leads = r;
       spare = spare_is_left S C m first.settings first.shared log s flat.few (ap (option_and_then (settled m first.settings)) r.runs ∙ ap (λ (ds : List Entry). cond (length ds == 0) (Some s) None) r.settled);
       places = (runs_keep m SharedOf ContextOf first.settings flat first.shared opened log s r.runs).places;
     }
 
-    module _ (log : List Entry) (s : State S C) (stands : Stands machine first log s) (i : Invariant m SharedOf ContextOf first.settings s) (w : ℕ) (known : w < first.settings.workers) where
+    module _ (log : List Entry) (s : RunState S C) (stands : Stands machine first log s) (i : Invariant m SharedOf ContextOf first.settings s) (w : ℕ) (known : w < first.settings.workers) where
       abbrev x : Whole S K C
       x = whole_of machine first log s
 
@@ -133,7 +133,7 @@ module _ {S K C : Type 0} (machine : K → Machine S C) (first : Whole S K C) wh
 
       -- where the replay of the journal has a thread
       pub there_of : (t : ℕ) (c : C) (mood : Mood) (is : IsOut machine first log w t c mood) → place_at s.places t ≡ out w c is.turns mood
-      there_of t c mood is = subst (λ (z : State S C). place_at z.places t ≡ out w c is.turns mood) (one_state log is.state s is.leads stands.leads) is.there
+      there_of t c mood is = subst (λ (z : RunState S C). place_at z.places t ≡ out w c is.turns mood) (one_state log is.state s is.leads stands.leads) is.there
 
       pub call_good : (c : Call C) → MayCall machine first log w c → GoodOf (calls.result_of machine x w c)
       call_good call.Find may = finds_good (end_before x) refl
@@ -142,9 +142,9 @@ module _ {S K C : Type 0} (machine : K → Machine S C) (first : Whole S K C) wh
 
 -- the journal after a call that is allowed replays to the world after it
 pub replays_on : {S K C : Type 0} (machine : K → Machine S C) (SharedOf : K → S → Type 0) (ContextOf : K → C → Type 0) → ((code : K) → IsFlat (machine code) (SharedOf code) (ContextOf code))
-    → (first : Whole S K C) (log : List Entry) (x : Whole S K C) (w : ℕ) (c : Call C) → Reaches machine SharedOf first log x → Allowed machine first log w c → Reaches machine SharedOf first (log ++ calls.entries_of machine x w c) (calls.after machine x w c)
+    → (first : Whole S K C) (log : List Entry) (x : Whole S K C) (w : ℕ) (c : Call C) → LeadsFromOpening machine SharedOf first log x → Allowed machine first log w c → LeadsFromOpening machine SharedOf first (log ++ calls.entries_of machine x w c) (calls.after machine x w c)
 replays_on {S} {K} {C} machine SharedOf ContextOf flat first log x w c r may =
-    let s : State S C = r.replays.state in
+    let s : RunState S C = r.replays.state in
     let m : Machine S C = machine first.code in
     let f : IsFlat m (SharedOf first.code) (ContextOf first.code) = flat first.code in
     let g : Good machine first log (calls.result_of machine (whole_of machine first log s) w c).1 (calls.result_of machine (whole_of machine first log s) w c).2 =
@@ -157,5 +157,5 @@ replays_on {S} {K} {C} machine SharedOf ContextOf flat first log x w c r may =
 
 -- a journal is within its limit
 pub fits : {S K C : Type 0} (machine : K → Machine S C) (SharedOf : K → S → Type 0) (ContextOf : K → C → Type 0) → ((code : K) → IsFlat (machine code) (SharedOf code) (ContextOf code))
-    → (first : Whole S K C) (log : List Entry) (x : Whole S K C) → Reaches machine SharedOf first log x → length log ≤ first.settings.entries
+    → (first : Whole S K C) (log : List Entry) (x : Whole S K C) → LeadsFromOpening machine SharedOf first log x → length log ≤ first.settings.entries
 fits machine SharedOf ContextOf flat first log x r = let h = (stands_of machine first (SharedOf first.code) (ContextOf first.code) (flat first.code) log r.replays.state r.opened r.replays.leads).spare in omega arith

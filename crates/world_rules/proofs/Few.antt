@@ -9,7 +9,7 @@ use Rattle.flat_rules.specs.States.{at_home, homes_of, kept_free}
 use Rattle.flat_rules.specs.Lawful.{IsFlat}
 use Rattle.world_rules.specs.declared.calls.Call.{Call}
 use Rattle.world_rules.specs.declared.calls.Call.TheVariants as call
-use Rattle.world_rules.specs.Whole.{Whole, Reaches}
+use Rattle.world_rules.specs.Whole.{Whole, LeadsFromOpening}
 use Rattle.world_rules.specs.Calls.{Result, home_at, end_before, is_wanted, pick, hands, hands_out, sweeps, finds_by, acts_by, homes_by, entries_of}
 use Rattle.world_rules.proofs.CallsKeep.{stands_of}
 
@@ -53,7 +53,7 @@ module _ (w : ℕ) where
 
 -- in a world that a journal reaches
 pub calls_fit : {S K C : Type 0} (machine : K → Machine S C) (SharedOf : K → S → Type 0) (ContextOf : K → C → Type 0) → ((code : K) → IsFlat (machine code) (SharedOf code) (ContextOf code))
-    → (first : Whole S K C) (log : List Entry) (x : Whole S K C) (w : ℕ) (c : Call C) → Reaches machine SharedOf first log x → length (entries_of machine x w c) ≤ kept_free
+    → (first : Whole S K C) (log : List Entry) (x : Whole S K C) (w : ℕ) (c : Call C) → LeadsFromOpening machine SharedOf first log x → length (entries_of machine x w c) ≤ kept_free
 calls_fit machine SharedOf ContextOf flat first log x w c r =
     let stands = stands_of machine first (SharedOf first.code) (ContextOf first.code) (flat first.code) log r.replays.state r.opened r.replays.leads in
     let places = stands.places in

@@ -9,7 +9,7 @@ use Rattle.ak_trace.specs.Hows as how
 use Rattle.flat_rules.specs.Rules.{Rules}
 use Rattle.flat_rules.specs.Machine.{Machine, Served, cleared, sweep}
 use Rattle.flat_rules.specs.Entries.{served_with, served_entry, barrier_entry, evacuation_entry, sweep_entries}
-use Rattle.flat_rules.specs.States.{State, Place, unbegun, home, out, free, asked, must, Mood, place_at, homes_of, none_out, waits_for_room, start}
+use Rattle.flat_rules.specs.States.{RunState, Place, unbegun, home, out, free, asked, must, Mood, place_at, homes_of, none_out, waits_for_room, start}
 use Rattle.flat_rules.specs.Events.{Event}
 use Rattle.flat_rules.specs.Replays.{same_entry, step, run}
 use Rattle.flat_rules.specs.inner.Cases.{Cases, Holds, event_holds, same_number}
@@ -65,7 +65,7 @@ module _ {S C : Type 0} (m : Machine S C) (rules : Rules) where
   sweep_tail w true room ss d ds h = let e : barrier_entry w room ∷ map (served_entry w) ss ≡ ds = cc h in subst IsTail e (inr refl, all_served w ss)
   sweep_tail w false room ss d ds h = let e : map (served_entry w) ss ≡ ds = cc h in subst IsTail e (served_tail _ (all_served w ss))
 
-  tails : (s : State S C) (w : ℕ) → Cases m rules s w Tail
+  tails : (s : RunState S C) (w : ℕ) → Cases m rules s w Tail
   tails s w = record {
     begins = λ t c rest pick at. single _;
     leaves = λ t c rest pick at. single _;
@@ -76,13 +76,13 @@ module _ {S C : Type 0} (m : Machine S C) (rules : Rules) where
   }
 
   -- where the second entry of an event is a barrier's, the first is an evacuation, and no thread is out
-  abbrev Second : State S C → Event S C → Type 0
+  abbrev Second : RunState S C → Event S C → Type 0
   Second s v = (d d2 : Entry) (ds : List Entry) → v.entries ≡ d ∷ d2 ∷ ds → d2.kind ≡ kind.barrier → (d.kind ≡ kind.barrier) × (d.how ≡ how.evacuation) × (d2.how ≢ how.evacuation) × (none_out m rules s ≡ true)
 
-  alone_second : (s : State S C) (e d d2 : Entry) (ds : List Entry) → e ∷ [] ≡ d ∷ d2 ∷ ds → d2.kind ≡ kind.barrier → (d.kind ≡ kind.barrier) × (d.how ≡ how.evacuation) × (d2.how ≢ how.evacuation) × (none_out m rules s ≡ true)
+  alone_second : (s : RunState S C) (e d d2 : Entry) (ds : List Entry) → e ∷ [] ≡ d ∷ d2 ∷ ds → d2.kind ≡ kind.barrier → (d.kind ≡ kind.barrier) × (d.how ≡ how.evacuation) × (d2.how ≢ how.evacuation) × (none_out m rules s ≡ true)
   alone_second s e d d2 ds h k = absurd (let z : [] ≡ d2 ∷ ds = cc h in cc z)
 
-  sweep_second : (s : State S C) → none_out m rules s ≡ true → (w : ℕ) (moved room : Bool) (ss : List Served) (d d2 : Entry) (ds : List Entry) → sweep_entries w moved room ss ≡ d ∷ d2 ∷ ds → d2.kind ≡ kind.barrier
+  sweep_second : (s : RunState S C) → none_out m rules s ≡ true → (w : ℕ) (moved room : Bool) (ss : List Served) (d d2 : Entry) (ds : List Entry) → sweep_entries w moved room ss ≡ d ∷ d2 ∷ ds → d2.kind ≡ kind.barrier
       → (d.kind ≡ kind.barrier) × (d.how ≡ how.evacuation) × (d2.how ≢ how.evacuation) × (none_out m rules s ≡ true)
   sweep_second s none w true room ss d d2 ds h k =
       let a : evacuation_entry w ≡ d = cc h in let b : barrier_entry w room ≡ d2 = cc h in
@@ -90,7 +90,7 @@ module _ {S C : Type 0} (m : Machine S C) (rules : Rules) where
   sweep_second s none w false room ss d d2 ds h k =
       let e : map (served_entry w) ss ≡ d2 ∷ ds = cc h in let q : AllServed (d2 ∷ ds) = subst AllServed e (all_served w ss) in absurd (let z : kind.barrier ≡ kind.served = sym k ∙ q.0 in cc z)
 
-  seconds : (s : State S C) (w : ℕ) → Cases m rules s w (Second s)
+  seconds : (s : RunState S C) (w : ℕ) → Cases m rules s w (Second s)
   seconds s w = record {
     begins = λ t c rest pick at. alone_second s _;
     leaves = λ t c rest pick at. alone_second s _;
@@ -107,7 +107,7 @@ module _ {S C : Type 0} (m : Machine S C) (rules : Rules) where
   alone_rests : (since : ℕ) (e d d2 : Entry) (ds : List Entry) → e ∷ [] ≡ d ∷ d2 ∷ ds → since ≡ 0
   alone_rests since e d d2 ds h = absurd (let z : [] ≡ d2 ∷ ds = cc h in cc z)
 
-  restings : (s : State S C) (w : ℕ) → Cases m rules s w Rests
+  restings : (s : RunState S C) (w : ℕ) → Cases m rules s w Rests
   restings s w = record {
     begins = λ t c rest pick at. alone_rests _ _;
     leaves = λ t c rest pick at. alone_rests _ _;
@@ -118,15 +118,15 @@ module _ {S C : Type 0} (m : Machine S C) (rules : Rules) where
   }
 
   -- what is still to come of an event: served ones, or first a barrier, behind the evacuation that the journal ends with
-  pub record Within (shared : S) (log : List Entry) (s : State S C) : Type 0 where
+  pub record Within (shared : S) (log : List Entry) (s : RunState S C) : Type 0 where
     pub ran : run m rules log (start m rules shared) ≡ Some s
     pub tail : IsTail s.due
     pub since : (d : Entry) (ds : List Entry) → s.due ≡ d ∷ ds → s.since ≡ 0
     pub behind : (d : Entry) (ds : List Entry) → s.due ≡ d ∷ ds → d.kind ≡ kind.barrier
         → (front : List Entry) × (v : Entry) × (log ≡ front ++ v ∷ []) × (v.kind ≡ kind.barrier) × (v.how ≡ how.evacuation) × (d.how ≢ how.evacuation)
-        × (z : State S C) × (run m rules front (start m rules shared) ≡ Some z) × (z.due ≡ []) × (none_out m rules z ≡ true)
+        × (z : RunState S C) × (run m rules front (start m rules shared) ≡ Some z) × (z.due ≡ []) × (none_out m rules z ≡ true)
 
-  ran_on : (shared : S) (log : List Entry) (s : State S C) (e : Entry) (s' : State S C) → run m rules log (start m rules shared) ≡ Some s → step m rules s e ≡ Some s' → run m rules (log ++ e ∷ []) (start m rules shared) ≡ Some s'
+  ran_on : (shared : S) (log : List Entry) (s : RunState S C) (e : Entry) (s' : RunState S C) → run m rules log (start m rules shared) ≡ Some s → step m rules s e ≡ Some s' → run m rules (log ++ e ∷ []) (start m rules shared) ≡ Some s'
   ran_on shared log s e s' ran st = run-append m rules log (e ∷ []) (start m rules shared) ∙ (ap (option_and_then (run m rules (e ∷ []))) ran ∙ ap (option_and_then (run m rules [])) st)
 
   -- the served ones behind the first of a tail
@@ -136,32 +136,32 @@ module _ {S C : Type 0} (m : Machine S C) (rules : Rules) where
   no_more : (es : List Entry) → AllServed es → (d : Entry) (ds : List Entry) → es ≡ d ∷ ds → d.kind ≡ kind.barrier → ⊥
   no_more es all d ds e k = let h : AllServed (d ∷ ds) = subst AllServed e all in let z : kind.barrier ≡ kind.served = sym k ∙ h.0 in cc z
 
-  within_step : (shared : S) (log : List Entry) (s : State S C) (e : Entry) (s' : State S C) → Within shared log s → step m rules s e ≡ Some s' → Within shared (log ++ e ∷ []) s'
+  within_step : (shared : S) (log : List Entry) (s : RunState S C) (e : Entry) (s' : RunState S C) → Within shared log s → step m rules s e ≡ Some s' → Within shared (log ++ e ∷ []) s'
   within_step shared log s e s' i st = step_cases m rules s e s' {R = Within shared (log ++ e ∷ []) s'}
       (λ n. let rest : AllServed n.ds = tail_rest n.d n.ds (subst IsTail n.due i.tail) in
-      let due : s'.due ≡ n.ds = ap (λ (z : State S C). z.due) n.is in record {
+      let due : s'.due ≡ n.ds = ap (λ (z : RunState S C). z.due) n.is in record {
         ran = ran_on shared log s e s' i.ran st;
         tail = subst IsTail (sym due) (served_tail n.ds rest);
-        since = λ d ds h. ap (λ (z : State S C). z.since) n.is ∙ i.since n.d n.ds n.due;
+        since = λ d ds h. ap (λ (z : RunState S C). z.since) n.is ∙ i.since n.d n.ds n.due;
         behind = λ d ds h k. absurd (no_more n.ds rest d ds (sym due ∙ h) k);
       })
-      (λ f. let due : s'.due ≡ f.ds = ap (λ (z : State S C). z.due) f.is in
+      (λ f. let due : s'.due ≡ f.ds = ap (λ (z : RunState S C). z.due) f.is in
       let same : e ≡ f.d = entry_is e f.d f.same in record {
         ran = ran_on shared log s e s' i.ran st;
         tail = subst IsTail (sym due) (subst (Holds m rules s e.worker Tail) f.event (event_holds m rules s e.worker Tail (tails s e.worker) e.kind e.thread) f.d f.ds f.entries);
-        since = λ d ds h. ap (λ (z : State S C). z.since) f.is ∙ subst (Holds m rules s e.worker Rests) f.event (event_holds m rules s e.worker Rests (restings s e.worker) e.kind e.thread) f.d d ds (f.entries ∙ ap (λ (z : List Entry). f.d ∷ z) (sym due ∙ h));
+        since = λ d ds h. ap (λ (z : RunState S C). z.since) f.is ∙ subst (Holds m rules s e.worker Rests) f.event (event_holds m rules s e.worker Rests (restings s e.worker) e.kind e.thread) f.d d ds (f.entries ∙ ap (λ (z : List Entry). f.d ∷ z) (sym due ∙ h));
         behind = λ d ds h k.
             let q = subst (Holds m rules s e.worker (Second s)) f.event (event_holds m rules s e.worker (Second s) (seconds s e.worker) e.kind e.thread) f.d d ds (f.entries ∙ ap (λ (z : List Entry). f.d ∷ z) (sym due ∙ h)) k in
             (log, e, refl, ap (λ (z : Entry). z.kind) same ∙ q.0, ap (λ (z : Entry). z.how) same ∙ q.1, q.2, s, i.ran, f.settled, q.3);
       })
       st
 
-  pub withins : (shared : S) (log : List Entry) (s : State S C) → run m rules log (start m rules shared) ≡ Some s → Within shared log s
+  pub withins : (shared : S) (log : List Entry) (s : RunState S C) → run m rules log (start m rules shared) ≡ Some s → Within shared log s
   withins shared log s ran = run_keeps m rules (Within shared) (within_step shared) [] log (start m rules shared) s (record { ran = refl; tail = tt; since = λ d ds h. absurd (cc h); behind = λ d ds h k. absurd (cc h) }) ran
 
   -- a journal up to an entry, and that entry
-  pub at_entry : (s0 : State S C) (before : List Entry) (e : Entry) (more : List Entry) (s : State S C) → run m rules (before ++ e ∷ more) s0 ≡ Some s → {R : Type 0}
-      → ((z y : State S C) → run m rules before s0 ≡ Some z → step m rules z e ≡ Some y → run m rules more y ≡ Some s → R) → R
+  pub at_entry : (s0 : RunState S C) (before : List Entry) (e : Entry) (more : List Entry) (s : RunState S C) → run m rules (before ++ e ∷ more) s0 ≡ Some s → {R : Type 0}
+      → ((z y : RunState S C) → run m rules before s0 ≡ Some z → step m rules z e ≡ Some y → run m rules more y ≡ Some s → R) → R
   at_entry s0 before e more s ran go = option_and_then_some (run m rules (e ∷ more)) (run m rules before s0) s (sym (run-append m rules before (e ∷ more) s0) ∙ ran)
       (λ z was rest. option_and_then_some (run m rules more) (step m rules z e) s rest (λ y st after. go z y was st after))
 
@@ -172,7 +172,7 @@ module _ {S C : Type 0} (m : Machine S C) (rules : Rules) where
   other : (since : ℕ) (e : Entry) (k : ℕ) → e.kind ≡ k → (k ≡ kind.barrier → ⊥) → (k ≡ kind.served → ⊥) → (d : Entry) (ds : List Entry) → e ∷ [] ≡ d ∷ ds → (d.kind ≡ kind.barrier → since ≡ 0) × (d.kind ≡ kind.served → ⊥)
   other since e k is p q d ds h = let same : e ≡ d = cc h in let kinds : k ≡ d.kind = sym is ∙ ap (λ (z : Entry). z.kind) same in (λ b. absurd (p (kinds ∙ b)), λ b. q (kinds ∙ b))
 
-  freshes : (s : State S C) (w : ℕ) → Cases m rules s w Fresh
+  freshes : (s : RunState S C) (w : ℕ) → Cases m rules s w Fresh
   freshes s w = record {
     begins = λ t c rest pick at. other _ _ kind.out refl (λ e. cc e) (λ e. cc e);
     leaves = λ t c rest pick at. other _ _ kind.out refl (λ e. cc e) (λ e. cc e);
@@ -183,47 +183,47 @@ module _ {S C : Type 0} (m : Machine S C) (rules : Rules) where
   }
 
   -- a served entry leaves the count as it is
-  served_step : (s : State S C) (e : Entry) (s' : State S C) → e.kind ≡ kind.served → s.since ≡ 0 → step m rules s e ≡ Some s' → s'.since ≡ 0
+  served_step : (s : RunState S C) (e : Entry) (s' : RunState S C) → e.kind ≡ kind.served → s.since ≡ 0 → step m rules s e ≡ Some s' → s'.since ≡ 0
   served_step s e s' is none st = step_cases m rules s e s' {R = s'.since ≡ 0}
-      (λ n. ap (λ (z : State S C). z.since) n.is ∙ none)
+      (λ n. ap (λ (z : RunState S C). z.since) n.is ∙ none)
       (λ f. absurd ((subst (Holds m rules s e.worker Fresh) f.event (event_holds m rules s e.worker Fresh (freshes s e.worker) e.kind e.thread) f.d f.ds f.entries).1 (sym (same_kind e f.d f.same) ∙ is)))
       st
 
   -- nor does a barrier bring one
-  barrier_step : (s : State S C) (e : Entry) (s' : State S C) → e.kind ≡ kind.barrier → s.since ≡ 0 → step m rules s e ≡ Some s' → s'.since ≡ 0
+  barrier_step : (s : RunState S C) (e : Entry) (s' : RunState S C) → e.kind ≡ kind.barrier → s.since ≡ 0 → step m rules s e ≡ Some s' → s'.since ≡ 0
   barrier_step s e s' is none st = step_cases m rules s e s' {R = s'.since ≡ 0}
-      (λ n. ap (λ (z : State S C). z.since) n.is ∙ none)
-      (λ f. ap (λ (z : State S C). z.since) f.is ∙ (subst (Holds m rules s e.worker Fresh) f.event (event_holds m rules s e.worker Fresh (freshes s e.worker) e.kind e.thread) f.d f.ds f.entries).0 (sym (same_kind e f.d f.same) ∙ is))
+      (λ n. ap (λ (z : RunState S C). z.since) n.is ∙ none)
+      (λ f. ap (λ (z : RunState S C). z.since) f.is ∙ (subst (Holds m rules s e.worker Fresh) f.event (event_holds m rules s e.worker Fresh (freshes s e.worker) e.kind e.thread) f.d f.ds f.entries).0 (sym (same_kind e f.d f.same) ∙ is))
       st
 
-  served_run : (es : List Entry) (s s' : State S C) → AllServed es → s.since ≡ 0 → run m rules es s ≡ Some s' → s'.since ≡ 0
-  served_run [] s s' all none ran = let same : s ≡ s' = cc ran in sym (ap (λ (z : State S C). z.since) same) ∙ none
+  served_run : (es : List Entry) (s s' : RunState S C) → AllServed es → s.since ≡ 0 → run m rules es s ≡ Some s' → s'.since ≡ 0
+  served_run [] s s' all none ran = let same : s ≡ s' = cc ran in sym (ap (λ (z : RunState S C). z.since) same) ∙ none
   served_run (e ∷ es) s s' all none ran = option_and_then_some (run m rules es) (step m rules s e) s' ran (λ y st rest. served_run es y s' all.1 (served_step s e y all.0 none st) rest)
 
-  tail_run : (es : List Entry) (s s' : State S C) → IsTail es → s.since ≡ 0 → run m rules es s ≡ Some s' → s'.since ≡ 0
+  tail_run : (es : List Entry) (s s' : RunState S C) → IsTail es → s.since ≡ 0 → run m rules es s ≡ Some s' → s'.since ≡ 0
   tail_run [] s s' all none ran = served_run [] s s' tt none ran
   tail_run (e ∷ es) s s' all none ran = option_and_then_some (run m rules es) (step m rules s e) s' ran (λ y st rest. served_run es y s' all.1 (by y st all.0) rest)
     where
-      by : (y : State S C) → step m rules s e ≡ Some y → (e.kind ≡ kind.served) ⊎ (e.kind ≡ kind.barrier) → y.since ≡ 0
+      by : (y : RunState S C) → step m rules s e ≡ Some y → (e.kind ≡ kind.served) ⊎ (e.kind ≡ kind.barrier) → y.since ≡ 0
       by y st (inl is) = served_step s e y is none st
       by y st (inr is) = barrier_step s e y is none st
 
   -- after a barrier, or at the start, no Turn entry has come
-  pub fresh_since : (shared : S) (log : List Entry) (s : State S C) → EndsAtBarrier log → run m rules log (start m rules shared) ≡ Some s → s.since ≡ 0
-  fresh_since shared log s (inl none) ran = let e : Some (start m rules shared) ≡ Some s = ap (λ (es : List Entry). run m rules es (start m rules shared)) (sym none) ∙ ran in let same : start m rules shared ≡ s = cc e in sym (ap (λ (z : State S C). z.since) same)
+  pub fresh_since : (shared : S) (log : List Entry) (s : RunState S C) → EndsAtBarrier log → run m rules log (start m rules shared) ≡ Some s → s.since ≡ 0
+  fresh_since shared log s (inl none) ran = let e : Some (start m rules shared) ≡ Some s = ap (λ (es : List Entry). run m rules es (start m rules shared)) (sym none) ∙ ran in let same : start m rules shared ≡ s = cc e in sym (ap (λ (z : RunState S C). z.since) same)
   fresh_since shared log s (inr (before, barrier, is, ends)) ran = by barrier ends (ap (λ (es : List Entry). run m rules es (start m rules shared)) (sym is) ∙ ran)
     where
       by : (barrier : List Entry) → IsBarrier barrier → run m rules (before ++ barrier) (start m rules shared) ≡ Some s → s.since ≡ 0
       by [] ends ran = absurd ends
       by (e ∷ es) ends ran = at_entry (start m rules shared) before e es s ran {R = s.since ≡ 0} (λ z y was st after. tail_run es y s ends.1
           (step_cases m rules z e y {R = y.since ≡ 0}
-          (λ n. ap (λ (x : State S C). x.since) n.is ∙ (withins shared before z was).since n.d n.ds n.due)
-          (λ f. ap (λ (x : State S C). x.since) f.is ∙ (subst (Holds m rules z e.worker Fresh) f.event (event_holds m rules z e.worker Fresh (freshes z e.worker) e.kind e.thread) f.d f.ds f.entries).0 (sym (same_kind e f.d f.same) ∙ ends.0))
+          (λ n. ap (λ (x : RunState S C). x.since) n.is ∙ (withins shared before z was).since n.d n.ds n.due)
+          (λ f. ap (λ (x : RunState S C). x.since) f.is ∙ (subst (Holds m rules z e.worker Fresh) f.event (event_holds m rules z e.worker Fresh (freshes z e.worker) e.kind e.thread) f.d f.ds f.entries).0 (sym (same_kind e f.d f.same) ∙ ends.0))
           st)
           after)
 
   -- an entry of a thread that is out
-  module _ (s : State S C) (w t n : ℕ) (c : C) (mood : Mood) (there : place_at s.places t ≡ out w c n mood) where
+  module _ (s : RunState S C) (w t n : ℕ) (c : C) (mood : Mood) (there : place_at s.places t ≡ out w c n mood) where
     abbrev Own : ℕ → Event S C → Type 0
     Own v e = (d : Entry) (ds : List Entry) → e.entries ≡ d ∷ ds → d.thread ≡ t → v ≡ w
 
@@ -248,7 +248,7 @@ module _ {S C : Type 0} (m : Machine S C) (rules : Rules) where
       comes = λ k j d at. not_there v k (out v d j must) _ refl at (λ e. cc e);
     }
 
-    pub own_step : (e : Entry) (s' : State S C) → s.due ≡ [] → e.thread ≡ t → step m rules s e ≡ Some s' → e.worker ≡ w
+    pub own_step : (e : Entry) (s' : RunState S C) → s.due ≡ [] → e.thread ≡ t → step m rules s e ≡ Some s' → e.worker ≡ w
     own_step e s' settled is st = step_cases m rules s e s' {R = e.worker ≡ w}
         (λ x. absurd (let z : [] ≡ x.d ∷ x.ds = sym settled ∙ x.due in cc z))
         (λ f. subst (Holds m rules s e.worker (Own e.worker)) f.event (event_holds m rules s e.worker (Own e.worker) (owns e.worker) e.kind e.thread) f.d f.ds f.entries (sym (same_thread e f.d f.same) ∙ is))
@@ -259,8 +259,8 @@ module _ {S K C : Type 0} (machine : K → Machine S C) (first : Whole S K C) wh
   m' = machine first.code
 
   pub none_out_at_barriers : NoneOutAtBarriers machine first
-  none_out_at_barriers before e more s ran is = at_entry m' first.settings (start m' first.settings first.shared) before e more s ran {R = (front : List Entry) × IsBehind front before e × (z : State S C) × Leads machine first front z × (none_out m' first.settings z ≡ true)} (λ z y was st after.
-      step_cases m' first.settings z e y {R = (front : List Entry) × IsBehind front before e × (z : State S C) × Leads machine first front z × (none_out m' first.settings z ≡ true)}
+  none_out_at_barriers before e more s ran is = at_entry m' first.settings (start m' first.settings first.shared) before e more s ran {R = (front : List Entry) × IsBehind front before e × (z : RunState S C) × Leads machine first front z × (none_out m' first.settings z ≡ true)} (λ z y was st after.
+      step_cases m' first.settings z e y {R = (front : List Entry) × IsBehind front before e × (z : RunState S C) × Leads machine first front z × (none_out m' first.settings z ≡ true)}
       (λ n. let q = (withins m' first.settings first.shared before z was).behind n.d n.ds n.due (sym (same_kind e n.d n.same) ∙ is) in
       (q.0, inr (q.1, q.2, q.3, q.4, subst (λ (k : Entry). k.how ≢ how.evacuation) (sym (entry_is e n.d n.same)) q.5), q.6, record { runs = q.7; settled = q.8 }, q.9))
       (λ f. (before, inl refl, z, record { runs = was; settled = f.settled }, barriers_alone S C m' first.settings z e y f.settled is (ap (option_and_then (run m' first.settings [])) st)))
@@ -269,4 +269,4 @@ module _ {S K C : Type 0} (machine : K → Machine S C) (first : Whole S K C) wh
   pub out_is_own : OutIsOwn machine first
   out_is_own before e more s w t c mood is ran of_ = at_entry m' first.settings (start m' first.settings first.shared) before e more s ran {R = e.worker ≡ w} (λ z y was st after.
       let same : is.state ≡ z = let k : Some is.state ≡ Some z = sym is.leads.runs ∙ was in cc k in
-      own_step m' first.settings z w t is.turns c mood (subst (λ (q : State S C). place_at q.places t ≡ out w c is.turns mood) same is.there) e y (subst (λ (q : State S C). q.due ≡ []) same is.leads.settled) of_ st)
+      own_step m' first.settings z w t is.turns c mood (subst (λ (q : RunState S C). place_at q.places t ≡ out w c is.turns mood) same is.there) e y (subst (λ (q : RunState S C). q.due ≡ []) same is.leads.settled) of_ st)

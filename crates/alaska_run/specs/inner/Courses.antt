@@ -23,7 +23,7 @@ use Rattle.flat_rules.specs.declared.settings.Mode.{Mode}
 use Rattle.flat_rules.specs.declared.settings.Mode.TheVariants.{Check, Race, Build}
 use Rattle.flat_rules.specs.declared.settings.Settings.{Settings}
 use Rattle.flat_rules.specs.Rules.{rules_of}
-use Rattle.flat_rules.specs.States.{State}
+use Rattle.flat_rules.specs.States.{RunState}
 use Rattle.flat_machine.specs.Shares.{Shared}
 use Rattle.flat_machine.specs.Start.{first_shared, settings_limits}
 use Rattle.flat_machine.specs.Replays.{Final, final_at, replay}
@@ -217,7 +217,7 @@ pub record HasRun (x : Opened) (r : Ran) : Type 0 where
   pub code : r.code ≡ x.code
   pub end : End
   pub final : Final
-  pub last : State Shared Context
+  pub last : RunState Shared Context
   pub leads : replay (arc_value x.code) x.settings r.journal.entries ≡ Some last
   pub final_is : final_at (arc_value x.code) x.settings r.journal.entries last ≡ final
   pub ended : final.end ≡ Some end

@@ -36,7 +36,7 @@ turn_of outcomes.Unfit own w = runs.unfit
 turn_of (outcomes.Broke rule place) own w = runs.broke rule place
 
 -- a point comes to what ends the turn, with these locals and blocks
-pub record Reaches (p : SharedProgram) (at : At) (function : ℕ) (locals : List control.Variable) (blocks : Blocks) (new_locals : List control.Variable) (new_blocks : Blocks) (q : Pending) : Type 0 where
+pub record ComesToEnd (p : SharedProgram) (at : At) (function : ℕ) (locals : List control.Variable) (blocks : Blocks) (new_locals : List control.Variable) (new_blocks : Blocks) (q : Pending) : Type 0 where
   pub goes : (r : Rest) (x : actions.World) →
       turns.from_point (here_at p function r) (point_of_at at) (now_in locals blocks x) ≡ ends (here_at p function r) q (now_in new_locals new_blocks x)
 

@@ -5,7 +5,7 @@ use Rattle.struct_ir.specs.Instrs.{LinearCode}
 use Rattle.struct_ir.specs.Linear.{Spot}
 use Rattle.flat_meaning.specs.Allowed.{handles_if, pinned}
 use Rattle.flat_meaning.specs.Effects.{serve_effect}
-use Rattle.flat_meaning.specs.Events.{State, Serve, after_serves, moved_state}
+use Rattle.flat_meaning.specs.Events.{MachineState, Serve, after_serves, moved_state}
 use Rattle.flat_meaning.specs.Memory.{words_leaving}
 use Rattle.flat_meaning.specs.Ready as stages
 use Rattle.flat_meaning.specs.Stages.{Stage}
@@ -72,7 +72,7 @@ abbrev pub serves_below : LinearCode → Shared → List (Option Context) → (c
 serves_below code s home count = serves_from (image_of code s) (range_with_len 0 count) (at_home s home)
 
 -- and the state behind that
-abbrev pub state_below : LinearCode → Shared → List (Option Context) → (count : ℕ) → State Spot
+abbrev pub state_below : LinearCode → Shared → List (Option Context) → (count : ℕ) → MachineState Spot
 state_below code s home count = after_serves (image_of code s) (serves_below code s home count) (at_home s home)
 
 -- all allocations that wait are served

@@ -220,7 +220,7 @@ module _ (code : LinearCode) where
       stage_waits (landed list q) none = refl
 
       by_done : (d : actions.Done) → done_at x n m place node t.top.own ≡ d
-          → IfGoes (effects.acted n stage t (own_list node) m (outcome_at x n m place node t d)) (outcome_turned x n m choice (does place (step node)) (outcome_at x n m place node t d))
+          → IfGoes (effects.effect_of_outcome n stage t (own_list node) m (outcome_at x n m place node t d)) (outcome_turned x n m choice (does place (step node)) (outcome_at x n m place node t d))
       by_done (actions.went None after) e = λ _. landed_to t.top.own (same_counts code t.top.own) after
       by_done (actions.went (Some word) after) e = λ _. landed_to (with_temps t.top.own (set_if t.top.own.temps node.to word)) (word_counts node.to word) after
       by_done actions.waits e = λ _. record {
@@ -243,7 +243,7 @@ module _ (code : LinearCode) where
       step_to =
           let d = done_at x n m place node t.top.own in
           subst (λ (e : Effect Spot). IfGoes e turned_now) (sym (step_effect_is x n m place node stage inside here_is))
-          (subst (IfGoes (effects.acted n stage t (own_list node) m (outcome_at x n m place node t d))) (sym (step_turned_is x n m place node stage inside here_is)) (by_done d refl))
+          (subst (IfGoes (effects.effect_of_outcome n stage t (own_list node) m (outcome_at x n m place node t d))) (sym (step_turned_is x n m place node stage inside here_is)) (by_done d refl))
 
     return_to : (temp : Option ℕ) → (linear code.funcs).here t.top.at ≡ returns temp → t.callers ≡ [] → IfGoes now turned_now
     return_to temp here_is none = λ not. absurd (not (ap goes (leave_turned_is x n m temp stage inside here_is none)))

@@ -5,7 +5,7 @@ use Rattle.block_store.specs.Runs.{own_at}
 use Rattle.struct_ir.specs.Instrs.{LinearCode}
 use Rattle.struct_ir.specs.Linear.{Spot}
 use Rattle.flat_meaning.specs.Allowed.{handles_if}
-use Rattle.flat_meaning.specs.Events.{State, Serve, after_serve, after_serves}
+use Rattle.flat_meaning.specs.Events.{MachineState, Serve, after_serve, after_serves}
 use Rattle.flat_meaning.specs.Image.{Image}
 use Rattle.flat_meaning.specs.Memory.{Made}
 use Rattle.flat_meaning.specs.Ready as stages
@@ -66,7 +66,7 @@ own_at_home (t ∷ ts) (c ∷ home) (suc n) below within = own_at_home ts home n
 -- ---- serves
 
 -- one behind the other
-pub after_serves-append : (x : Image Spot) (vs ws : List Serve) (s : State Spot) → after_serves x (vs ++ ws) s ≡ after_serves x ws (after_serves x vs s)
+pub after_serves-append : (x : Image Spot) (vs ws : List Serve) (s : MachineState Spot) → after_serves x (vs ++ ws) s ≡ after_serves x ws (after_serves x vs s)
 after_serves-append x [] ws s = refl
 after_serves-append x (v ∷ vs) ws s = after_serves-append x vs ws (after_serve x s v)
 
@@ -128,7 +128,7 @@ module _ (code : LinearCode) where
   wants_same s (landed list t) = refl
 
   -- one that doesn't isn't served
-  pub none_served : (s : Shared) (now : State Spot) (k : ℕ) (t : Made) (p : Option Context) → IsOfRun (machine_of code) (IsContextOf code) p → waits_at_home p ≡ false → serves_if (image_of code s) now k (stage_home t p) ≡ []
+  pub none_served : (s : Shared) (now : MachineState Spot) (k : ℕ) (t : Made) (p : Option Context) → IsOfRun (machine_of code) (IsContextOf code) p → waits_at_home p ≡ false → serves_if (image_of code s) now k (stage_home t p) ≡ []
   none_served s now k t None of_run none = refl
   none_served s now k t (Some c) of_run none = by_stage c.stage refl
     where

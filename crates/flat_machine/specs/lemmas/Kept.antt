@@ -13,9 +13,9 @@ use Rattle.struct_ir.specs.Machine.{Point}
 use Rattle.struct_ir.specs.Threads.{Thread}
 use Rattle.flat_meaning.specs.declared.endings.Stop.{Stop}
 use Rattle.flat_meaning.specs.Accesses as actions
-use Rattle.flat_meaning.specs.Actions.{acted}
+use Rattle.flat_meaning.specs.Actions.{acted_on_memory}
 use Rattle.flat_meaning.specs.Effects.{serve_effect, landing}
-use Rattle.flat_meaning.specs.Events.{State, Serve, after_serves, moved_state, serving_state, new_stages, put, put_if, stage_made}
+use Rattle.flat_meaning.specs.Events.{MachineState, Serve, after_serves, moved_state, serving_state, new_stages, put, put_if, stage_made}
 use Rattle.flat_meaning.specs.Image.{Image}
 use Rattle.flat_meaning.specs.Memory.{Made, Memory}
 use Rattle.flat_meaning.specs.Ready as stages
@@ -91,7 +91,7 @@ module _ (code : LinearCode) where
       (behind_is code program t.top l t.callers (subst GoesOn (sym here) tt) same all)
 
   -- the turn of a context that waits for room
-  record Served (s : Shared) (st : State Spot) (n : ℕ) (c : Context) : Type 0 where
+  record Served (s : Shared) (st : MachineState Spot) (n : ℕ) (c : Context) : Type 0 where
     pub stage : Stage Spot
     pub is : c.stage ≡ Some stage
     pub wants : stages.wants_room (own_image code) stage ≡ true
@@ -102,7 +102,7 @@ module _ (code : LinearCode) where
     pub serves : is_some after.leaving ≡ true
     pub kept : KeptAt (machine_of code) (IsContextOf code) (Some c) (Some (standing c (Some behind) (waits_at (own_image code) (Some behind))))
 
-  served : (s : Shared) (st : State Spot) (n : ℕ) (c : Context) → IsContextOf code c → c.stop ≡ None → stands_of code c.stage ≡ true → c.wait ≡ Some Room → is_some st.memory.leaving ≡ true → Served s st n c
+  served : (s : Shared) (st : MachineState Spot) (n : ℕ) (c : Context) → IsContextOf code c → c.stop ≡ None → stands_of code c.stage ≡ true → c.wait ≡ Some Room → is_some st.memory.leaving ≡ true → Served s st n c
   served s st n c of_ going stands wait some =
       let w = waiting_of code c.stage (sym of_.wait ∙ wait) in
       let there = instr_there (slice_get (instrs_of code.funcs w.thread.top.at.function) w.thread.top.at.index) w.here in
@@ -112,7 +112,7 @@ module _ (code : LinearCode) where
       let list : IsListFor b.thread.top.own b.at.node.slots = subst (λ (q : Point Spot Words). IsListFor q.own b.at.node.slots) b.top (list_before code c i of_ b) in
       of_parts s st n c of_ going stands some b.thread b.is b.at.place b.at.node at b.at.action b.at.has list
     where
-      of_parts : (s : Shared) (st : State Spot) (n : ℕ) (c : Context) → IsContextOf code c → c.stop ≡ None → stands_of code c.stage ≡ true → is_some st.memory.leaving ≡ true
+      of_parts : (s : Shared) (st : MachineState Spot) (n : ℕ) (c : Context) → IsContextOf code c → c.stop ≡ None → stands_of code c.stage ≡ true → is_some st.memory.leaving ≡ true
           → (t : Thread Spot Words) → c.stage ≡ Some (waiting t) → (place : ℕ) (node : Step) → slice_get (instrs_of code.funcs t.top.at.function) t.top.at.index ≡ Some (acts place (step node)) → takes_room node.action ≡ true → IsSized (length t.top.own.temps) node → IsListFor t.top.own node.slots
           → Served s st n c
       of_parts s st n c of_ going stands some t is place node at takes has list =
@@ -120,7 +120,7 @@ module _ (code : LinearCode) where
           let x = image_of code s in
           let choice = action_choice (served_choice m.storage) t.top.own node.action node.temps in
           let given = gives x.layout n t.top.own (length t.top.own.temps) node has m some in
-          let done : acted x.layout n choice node.action (map (target_of t.top.own) node.places) (map (word_at t.top.own) node.temps) m ≡ actions.went given.word given.after = given.is in
+          let done : acted_on_memory x.layout n choice node.action (map (target_of t.top.own) node.places) (map (word_at t.top.own) node.temps) m ≡ actions.went given.word given.after = given.is in
           let chosen : (serve_of x st n (waiting t)).choice ≡ choice = choice_is code s t n place node at (served_choice m.storage) in
           let thread : Thread Spot Words = thread_behind t (with_word t.top.own node.to given.word) in
           let behind : Stage Spot = landed node.slots thread in
@@ -173,7 +173,7 @@ module _ (code : LinearCode) where
     Kept k stage = KeptAt (machine_of code) (IsContextOf code) (place k) (place_at code (place k) stage)
 
     -- so many threads have had their turn
-    record IsSwept (n : ℕ) (st : State Spot) : Type 0 where
+    record IsSwept (n : ℕ) (st : MachineState Spot) : Type 0 where
       pub long : length st.own ≡ length s.memory.threads
       pub threads : st.memory.threads ≡ s.memory.threads
       pub serves : is_some st.memory.leaving ≡ true
@@ -183,7 +183,7 @@ module _ (code : LinearCode) where
     begin_swept : IsSwept 0 (serving_state (moved_state (sweep_moves x (at_home s home)) (at_home s home)))
     begin_swept = record { long = length-stages_home s.memory.threads home; threads = refl; serves = refl; later = λ k le. refl; kept = λ k lt. absurd (omega (arith, lt)) }
 
-    module _ (n : ℕ) (st : State Spot) (is : IsSwept n st) (below : n < length s.memory.threads) where
+    module _ (n : ℕ) (st : MachineState Spot) (is : IsSwept n st) (below : n < length s.memory.threads) where
       within : n < length home
       within = omega (arith, homes.0, below)
 
@@ -223,7 +223,7 @@ module _ (code : LinearCode) where
         turn_is : serves_if x st n (own_at st.own n) ≡ serve ∷ []
         turn_is = ap (serves_if x st n) own_is ∙ ap (λ b. if_wants b serve) (wants_same code s v.stage ∙ v.wants)
 
-        abbrev next : State Spot
+        abbrev next : MachineState Spot
         next = put st n (record { memory = v.after; stage = Some v.behind; end = None })
 
         next_is : after_serves x (serve ∷ []) st ≡ next
@@ -275,7 +275,7 @@ module _ (code : LinearCode) where
         by true w = waits_here (place n) refl w
         by false w = unserved w
 
-    swept_from : (count n : ℕ) (st : State Spot) → n + count ≡ length s.memory.threads → IsSwept n st → IsSwept (length s.memory.threads) (after_serves x (serves_from x (range_with_len n count) st) st)
+    swept_from : (count n : ℕ) (st : MachineState Spot) → n + count ≡ length s.memory.threads → IsSwept n st → IsSwept (length s.memory.threads) (after_serves x (serves_from x (range_with_len n count) st) st)
     swept_from zero n st e is = let same : n ≡ length s.memory.threads = omega (arith, e) in subst (λ k. IsSwept k st) same is
     swept_from (suc count) n st e is =
         let vs = serves_if x st n (own_at st.own n) in
@@ -283,11 +283,11 @@ module _ (code : LinearCode) where
         let rest = serves_from x (range_with_len (n + 1) count) next in
         subst (IsSwept (length s.memory.threads)) (sym (after_serves-append x vs rest st)) (swept_from count (n + 1) next (omega (arith, e)) (turn n st is (omega (arith, e))))
 
-    abbrev end_state : State Spot
+    abbrev end_state : MachineState Spot
     end_state = swept_state x (at_home s home)
 
     -- before the old objects of reallocs leave
-    abbrev given_state : State Spot
+    abbrev given_state : MachineState Spot
     given_state = after_serves x (sweep_serves x (at_home s home)) (serving_state (moved_state (sweep_moves x (at_home s home)) (at_home s home)))
 
     end_swept : IsSwept (length s.memory.threads) given_state

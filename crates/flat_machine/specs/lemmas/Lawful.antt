@@ -10,7 +10,7 @@ use Rattle.struct_ir.specs.Instrs.{LinearCode}
 use Rattle.struct_ir.specs.Linear.{Spot}
 use Rattle.flat_meaning.specs.declared.endings.Stop.{Stop}
 use Rattle.flat_meaning.specs.Effects.{Effect, serve_effect}
-use Rattle.flat_meaning.specs.Events.{State, Serve, after_serves, moved_state, serving_state, new_stages, put, put_if, stage_made}
+use Rattle.flat_meaning.specs.Events.{MachineState, Serve, after_serves, moved_state, serving_state, new_stages, put, put_if, stage_made}
 use Rattle.flat_meaning.specs.Image.{Image}
 use Rattle.flat_meaning.specs.Local.{Came}
 use Rattle.flat_meaning.specs.Memory.{Made, Memory}
@@ -124,11 +124,11 @@ own_at_append (x ∷ own) more zero below = refl
 own_at_append (x ∷ own) more (suc k) below = own_at_append own more k (omega arith)
 
 module _ (x : Image Spot) where
-  a_turn_if : (s : State Spot) (k : ℕ) (stage : Stage Spot) (b : Bool) → Turn k (if_wants b (serve_of x s k stage))
+  a_turn_if : (s : MachineState Spot) (k : ℕ) (stage : Stage Spot) (b : Bool) → Turn k (if_wants b (serve_of x s k stage))
   a_turn_if s k stage true = one_turn (serve_of x s k stage) refl
   a_turn_if s k stage false = no_turn
 
-  a_turn : (s : State Spot) (k : ℕ) (o : Option (Stage Spot)) → Turn k (serves_if x s k o)
+  a_turn : (s : MachineState Spot) (k : ℕ) (o : Option (Stage Spot)) → Turn k (serves_if x s k o)
   a_turn s k None = no_turn
   a_turn s k (Some stage) = a_turn_if s k stage (stages.wants_room x stage)
 
@@ -138,17 +138,17 @@ module _ (x : Image Spot) where
       pub long : count ≤ length own
       pub none : (k : ℕ) → most ≤ k → k < count → own_at own k ≡ None
 
-    away_put : (s : State Spot) (t : ℕ) (e : Effect Spot) → t < most → AreAway s.own → AreAway (put s t e).own
+    away_put : (s : MachineState Spot) (t : ℕ) (e : Effect Spot) → t < most → AreAway s.own → AreAway (put s t e).own
     away_put s t e below away = record {
       long = omega (arith, away.long, length-set s.own t e.stage, length-append (set s.own t e.stage) (new_stages s.own e.memory));
       none = λ k le lt. own_at_append (set s.own t e.stage) (new_stages s.own e.memory) k (omega (arith, away.long, length-set s.own t e.stage)) ∙ own_at_set-later s.own t k e.stage (omega arith) ∙ away.none k le lt;
     }
 
-    away_if : (s : State Spot) (t : ℕ) (effect : Stage Spot → Memory → Effect Spot) (o : Option (Stage Spot)) → t < most → AreAway s.own → AreAway (put_if s t effect o).own
+    away_if : (s : MachineState Spot) (t : ℕ) (effect : Stage Spot → Memory → Effect Spot) (o : Option (Stage Spot)) → t < most → AreAway s.own → AreAway (put_if s t effect o).own
     away_if s t effect None below away = away
     away_if s t effect (Some stage) below away = away_put s t (effect stage s.memory) below away
 
-    away_after : (s : State Spot) (k : ℕ) (vs : List Serve) → Turn k vs → k < most → AreAway s.own → AreAway (after_serves x vs s).own
+    away_after : (s : MachineState Spot) (k : ℕ) (vs : List Serve) → Turn k vs → k < most → AreAway s.own → AreAway (after_serves x vs s).own
     away_after s k [] turn below away = away
     away_after s k _ (one_turn v e) below away = away_if s v.thread (serve_effect x v.thread v.choice) (own_at s.own v.thread) (subst (λ j. j < most) (sym e) below) away
 
@@ -160,7 +160,7 @@ module _ (x : Image Spot) where
     abbrev AreFew : ℕ → ℕ → Type 0
     AreFew a served = (served ≡ 0) ⊎ (a + served ≤ most)
 
-    abbrev served_of_all : (a n : ℕ) → State Spot → ℕ
+    abbrev served_of_all : (a n : ℕ) → MachineState Spot → ℕ
     served_of_all a n s = length (serves_from x (range_with_len a n) s)
 
     one_more : (a v r : ℕ) → a < most → v ≤ 1 → AreFew (a + 1) r → AreFew a (v + r)
@@ -172,7 +172,7 @@ module _ (x : Image Spot) where
     none_more a r le (inr few) = absurd (omega (arith, few, le))
 
     -- of a thread, and of those behind it
-    few_step : (n a : ℕ) (s : State Spot) → a < count → AreAway s.own → ((next : State Spot) → AreAway next.own → AreFew (a + 1) (served_of_all (a + 1) n next)) → AreFew a (served_of_all a (suc n) s)
+    few_step : (n a : ℕ) (s : MachineState Spot) → a < count → AreAway s.own → ((next : MachineState Spot) → AreAway next.own → AreFew (a + 1) (served_of_all (a + 1) n next)) → AreFew a (served_of_all a (suc n) s)
     few_step n a s lt away rest = by (leb_tells most a) where
       by : ((nat_le most a ≡ true) × (most ≤ a)) ⊎ ((nat_le most a ≡ false) × (a < most)) → AreFew a (served_of_all a (suc n) s)
       by (inr h) =
@@ -184,7 +184,7 @@ module _ (x : Image Spot) where
           let idle : serves_if x s a (own_at s.own a) ≡ [] = ap (serves_if x s a) (away.none a h.1 lt) in
           subst (λ (vs : List Serve). AreFew a (length (vs ++ serves_from x (range_with_len (a + 1) n) (after_serves x vs s)))) (sym idle) (none_more a (served_of_all (a + 1) n s) h.1 (rest s away))
 
-    few_from : (n a : ℕ) (s : State Spot) → a + n ≤ count → AreAway s.own → AreFew a (served_of_all a n s)
+    few_from : (n a : ℕ) (s : MachineState Spot) → a + n ≤ count → AreAway s.own → AreFew a (served_of_all a n s)
     few_from zero a s le away = inl refl
     few_from (suc n) a s le away = few_step n a s (omega (arith, le)) away (λ next still. few_from n (a + 1) next (omega (arith, le)) still)
 

@@ -173,7 +173,7 @@ module _ (code : LinearCode) (s : Shared) (of_ : IsSharedOf code s) (n : ℕ) wh
           omega (arith, some_params (map (λ (f : LinearFunc). f.params) code.funcs) function 1 may, length-map code.funcs (λ (f : LinearFunc). f.params))
 
       by_done_left : (d : actions.Done) → done_at x n m place node t.top.own ≡ d
-          → LeavesTo (effects.acted n stage t (own_list node) m (outcome_at x n m place node t d)).memory.threads (outcome_turned x n m choice (does place (step node)) (outcome_at x n m place node t d))
+          → LeavesTo (effects.effect_of_outcome n stage t (own_list node) m (outcome_at x n m place node t d)).memory.threads (outcome_turned x n m choice (does place (step node)) (outcome_at x n m place node t d))
       by_done_left (actions.went None after) e =
           acted_left node.action _ starts_there (done_on x m choice node.action).1 after.threads (threads_are x.layout n m choice node.action (map (target_of t.top.own) node.places) (map (word_at t.top.own) node.temps) None after e)
       by_done_left (actions.went (Some word) after) e =
@@ -186,9 +186,9 @@ module _ (code : LinearCode) (s : Shared) (of_ : IsSharedOf code s) (n : ℕ) wh
       step_left =
           let d = done_at x n m place node t.top.own in
           subst (λ (e : Effect Spot). LeavesTo e.memory.threads turned_now) (sym (step_effect_is x n m place node stage inside here_is))
-          (subst (LeavesTo (effects.acted n stage t (own_list node) m (outcome_at x n m place node t d)).memory.threads) (sym (step_turned_is x n m place node stage inside here_is)) (by_done_left d refl))
+          (subst (LeavesTo (effects.effect_of_outcome n stage t (own_list node) m (outcome_at x n m place node t d)).memory.threads) (sym (step_turned_is x n m place node stage inside here_is)) (by_done_left d refl))
 
-      by_done_idle : (d : actions.Done) → done_at x n m place node t.top.own ≡ d → (effects.acted n stage t (own_list node) m (outcome_at x n m place node t d)).memory.leaving ≡ None
+      by_done_idle : (d : actions.Done) → done_at x n m place node t.top.own ≡ d → (effects.effect_of_outcome n stage t (own_list node) m (outcome_at x n m place node t d)).memory.leaving ≡ None
       by_done_idle (actions.went None after) e = idle_behind x.layout n m choice node.action (map (target_of t.top.own) node.places) (map (word_at t.top.own) node.temps) None after e of_.idle
       by_done_idle (actions.went (Some word) after) e = idle_behind x.layout n m choice node.action (map (target_of t.top.own) node.places) (map (word_at t.top.own) node.temps) (Some word) after e of_.idle
       by_done_idle actions.waits e = of_.idle

@@ -18,7 +18,7 @@ use Rattle.ak_trace.specs.declared.endings.TrapKind.{TrapKind}
 use Rattle.ak_trace.specs.declared.endings.TrapKind.TheVariants as kinds
 use Rattle.flat_meaning.specs.Accesses as actions
 use Rattle.flat_meaning.specs.Accesses.{Choice, Done, allocated, zeroed, renewed, reallocated, guarded, with_copy, copied, freed, is_live_start, is_plain, loaded, output_room, printed, prints, stored, within, word_read}
-use Rattle.flat_meaning.specs.Actions.{acted, becomes, changed, compared, is_equal, number_at, is_free, joined_at, joined_if, locked, may_start, printed_parts, started, unlocked}
+use Rattle.flat_meaning.specs.Actions.{acted_on_memory, word_after_change, changed, compared, is_equal, number_at, is_free, joined_at, joined_if, locked, may_start, printed_parts, started, unlocked}
 use Rattle.flat_meaning.specs.Image.{Image, Layout}
 use Rattle.flat_meaning.specs.Memory.{Made, Memory, beginning, left_by, with_storage, with_thread, written}
 use Rattle.flat_meaning.specs.Ready.{takes_room}
@@ -57,20 +57,20 @@ started_goes true kind o word other m after e = within_goes kind o word after e
 started_goes false kind o word other m after e = absurd cc
 
 module _ (x : Layout) (n : ℕ) (m : Memory) where
-  load_goes : (choice : Choice) (how : _) (ps : List Target) (ws : List ℕ) → acted x n choice (load how) ps ws m ≡ actions.waits → ⊥
+  load_goes : (choice : Choice) (how : _) (ps : List Target) (ws : List ℕ) → acted_on_memory x n choice (load how) ps ws m ≡ actions.waits → ⊥
   load_goes choice how [] ws e = absurd cc
   load_goes choice how (a ∷ []) [] e = plain_goes (is_plain choice) (loaded how a m) (within_goes _ _ _ _) e
   load_goes choice how (a ∷ []) (w ∷ ws) e = absurd cc
   load_goes choice how (a ∷ b ∷ ps) ws e = absurd cc
 
-  store_goes : (choice : Choice) (how : _) (ps : List Target) (ws : List ℕ) → acted x n choice (store how) ps ws m ≡ actions.waits → ⊥
+  store_goes : (choice : Choice) (how : _) (ps : List Target) (ws : List ℕ) → acted_on_memory x n choice (store how) ps ws m ≡ actions.waits → ⊥
   store_goes choice how [] ws e = absurd cc
   store_goes choice how (a ∷ []) [] e = absurd cc
   store_goes choice how (a ∷ []) (w ∷ []) e = plain_goes (is_plain choice) (stored how a w m) (within_goes _ _ _ _) e
   store_goes choice how (a ∷ []) (w ∷ v ∷ ws) e = absurd cc
   store_goes choice how (a ∷ b ∷ ps) ws e = absurd cc
 
-  copy_goes : (choice : Choice) (align : ℕ) (same : Bool) (ps : List Target) (ws : List ℕ) → acted x n choice (copy_bytes align same) ps ws m ≡ actions.waits → ⊥
+  copy_goes : (choice : Choice) (align : ℕ) (same : Bool) (ps : List Target) (ws : List ℕ) → acted_on_memory x n choice (copy_bytes align same) ps ws m ≡ actions.waits → ⊥
   copy_goes choice align same [] ws e = absurd cc
   copy_goes choice align same (a ∷ []) ws e = absurd cc
   copy_goes choice align same (a ∷ b ∷ []) [] e = absurd cc
@@ -78,13 +78,13 @@ module _ (x : Layout) (n : ℕ) (m : Memory) where
   copy_goes choice align same (a ∷ b ∷ []) (w ∷ v ∷ ws) e = absurd cc
   copy_goes choice align same (a ∷ b ∷ c ∷ ps) ws e = absurd cc
 
-  free_goes : (choice : Choice) (ps : List Target) (ws : List ℕ) → acted x n choice free ps ws m ≡ actions.waits → ⊥
+  free_goes : (choice : Choice) (ps : List Target) (ws : List ℕ) → acted_on_memory x n choice free ps ws m ≡ actions.waits → ⊥
   free_goes choice (a ∷ ps) ws e = absurd cc
   free_goes choice [] [] e = absurd cc
   free_goes choice [] (w ∷ []) e = plain_goes (is_plain choice) (freed w m) (freed_goes (eqb w 0) (is_live_start m.storage w) _ _ _) e
   free_goes choice [] (w ∷ v ∷ ws) e = absurd cc
 
-  change_goes : (choice : Choice) (how : Change) (t : IntType) (ps : List Target) (ws : List ℕ) → acted x n choice (change how t) ps ws m ≡ actions.waits → ⊥
+  change_goes : (choice : Choice) (how : Change) (t : IntType) (ps : List Target) (ws : List ℕ) → acted_on_memory x n choice (change how t) ps ws m ≡ actions.waits → ⊥
   change_goes choice how t [] ws e = absurd cc
   change_goes choice how t (a ∷ []) [] e = absurd cc
   change_goes choice how t (a ∷ []) (w ∷ []) e = plain_goes (is_plain choice) (changed how t a w m) (within_goes _ _ _ _) e
@@ -95,7 +95,7 @@ module _ (x : Layout) (n : ℕ) (m : Memory) where
   compared_goes true kind o word other one two e = within_goes kind o word one e
   compared_goes false kind o word other one two e = within_goes kind o other two e
 
-  compare_goes : (choice : Choice) (t : IntType) (ps : List Target) (ws : List ℕ) → acted x n choice (compare t) ps ws m ≡ actions.waits → ⊥
+  compare_goes : (choice : Choice) (t : IntType) (ps : List Target) (ws : List ℕ) → acted_on_memory x n choice (compare t) ps ws m ≡ actions.waits → ⊥
   compare_goes choice t [] ws e = absurd cc
   compare_goes choice t (a ∷ []) ws e = absurd cc
   compare_goes choice t (a ∷ b ∷ []) [] e = absurd cc
@@ -103,19 +103,19 @@ module _ (x : Layout) (n : ℕ) (m : Memory) where
   compare_goes choice t (a ∷ b ∷ []) (w ∷ v ∷ ws) e = absurd cc
   compare_goes choice t (a ∷ b ∷ c ∷ ps) ws e = absurd cc
 
-  unlock_goes : (choice : Choice) (ps : List Target) (ws : List ℕ) → acted x n choice unlock ps ws m ≡ actions.waits → ⊥
+  unlock_goes : (choice : Choice) (ps : List Target) (ws : List ℕ) → acted_on_memory x n choice unlock ps ws m ≡ actions.waits → ⊥
   unlock_goes choice [] ws e = absurd cc
   unlock_goes choice (a ∷ []) [] e = plain_goes (is_plain choice) (unlocked a m) (within_goes _ _ _ _) e
   unlock_goes choice (a ∷ []) (w ∷ ws) e = absurd cc
   unlock_goes choice (a ∷ b ∷ ps) ws e = absurd cc
 
-  destroy_goes : (choice : Choice) (ps : List Target) (ws : List ℕ) → acted x n choice destroy ps ws m ≡ actions.waits → ⊥
+  destroy_goes : (choice : Choice) (ps : List Target) (ws : List ℕ) → acted_on_memory x n choice destroy ps ws m ≡ actions.waits → ⊥
   destroy_goes choice [] ws e = absurd cc
   destroy_goes choice (a ∷ []) [] e = plain_goes (is_plain choice) (actions.went None m) (λ f. absurd cc) e
   destroy_goes choice (a ∷ []) (w ∷ ws) e = absurd cc
   destroy_goes choice (a ∷ b ∷ ps) ws e = absurd cc
 
-  start_goes : (choice : Choice) (function : ℕ) (ps : List Target) (ws : List ℕ) → acted x n choice (start function) ps ws m ≡ actions.waits → ⊥
+  start_goes : (choice : Choice) (function : ℕ) (ps : List Target) (ws : List ℕ) → acted_on_memory x n choice (start function) ps ws m ≡ actions.waits → ⊥
   start_goes choice function [] ws e = absurd cc
   start_goes choice function (a ∷ []) [] e = absurd cc
   start_goes choice function (a ∷ []) (w ∷ []) e = plain_goes (is_plain choice) (started x.limits.threads function a w m) (started_goes (may_start x.limits.threads m) _ _ _ _ _ _) e
@@ -123,7 +123,7 @@ module _ (x : Layout) (n : ℕ) (m : Memory) where
   start_goes choice function (a ∷ b ∷ ps) ws e = absurd cc
 
   -- what waits may wait
-  pub waits_may : (choice : Choice) (a : Action) (ps : List Target) (ws : List ℕ) → acted x n choice a ps ws m ≡ actions.waits → may_wait a ≡ true
+  pub waits_may : (choice : Choice) (a : Action) (ps : List Target) (ws : List ℕ) → acted_on_memory x n choice a ps ws m ≡ actions.waits → may_wait a ≡ true
   waits_may choice (load how) ps ws e = absurd (load_goes choice how ps ws e)
   waits_may choice (store how) ps ws e = absurd (store_goes choice how ps ws e)
   waits_may choice (copy_bytes align same) ps ws e = absurd (copy_goes choice align same ps ws e)
@@ -208,27 +208,27 @@ for_room choice e = sym (ap (λ k. is_for_room (blocked_turned k)) e)
 
 -- a step that waits wants room where its turn says so
 module _ (x : Layout) (n : ℕ) (rule : (word size : ℕ) → Choice) (l : Words) (m : Memory) where
-  malloc_told : (ps : List Target) (ts : List ℕ) → acted x n (action_choice rule l malloc ts) malloc ps (map (word_at l) ts) m ≡ actions.waits → true ≡ is_for_room (blocked_turned (action_choice rule l malloc ts))
+  malloc_told : (ps : List Target) (ts : List ℕ) → acted_on_memory x n (action_choice rule l malloc ts) malloc ps (map (word_at l) ts) m ≡ actions.waits → true ≡ is_for_room (blocked_turned (action_choice rule l malloc ts))
   malloc_told (p ∷ ps) ts e = absurd cc
   malloc_told [] [] e = absurd cc
   malloc_told [] (t ∷ []) e = for_room _ (allocated_waits (rule 0 (word_at l t)) (word_at l t) m e)
   malloc_told [] (t ∷ u ∷ ts) e = absurd cc
 
-  calloc_told : (ps : List Target) (ts : List ℕ) → acted x n (action_choice rule l calloc ts) calloc ps (map (word_at l) ts) m ≡ actions.waits → true ≡ is_for_room (blocked_turned (action_choice rule l calloc ts))
+  calloc_told : (ps : List Target) (ts : List ℕ) → acted_on_memory x n (action_choice rule l calloc ts) calloc ps (map (word_at l) ts) m ≡ actions.waits → true ≡ is_for_room (blocked_turned (action_choice rule l calloc ts))
   calloc_told (p ∷ ps) ts e = absurd cc
   calloc_told [] [] e = absurd cc
   calloc_told [] (t ∷ []) e = absurd cc
   calloc_told [] (t ∷ u ∷ []) e = for_room _ (zeroed_waits (rule 0 (word_at l t * word_at l u)) (word_at l t * word_at l u) m e)
   calloc_told [] (t ∷ u ∷ v ∷ ts) e = absurd cc
 
-  realloc_told : (ps : List Target) (ts : List ℕ) → acted x n (action_choice rule l realloc ts) realloc ps (map (word_at l) ts) m ≡ actions.waits → true ≡ is_for_room (blocked_turned (action_choice rule l realloc ts))
+  realloc_told : (ps : List Target) (ts : List ℕ) → acted_on_memory x n (action_choice rule l realloc ts) realloc ps (map (word_at l) ts) m ≡ actions.waits → true ≡ is_for_room (blocked_turned (action_choice rule l realloc ts))
   realloc_told (p ∷ ps) ts e = absurd cc
   realloc_told [] [] e = absurd cc
   realloc_told [] (t ∷ []) e = absurd cc
   realloc_told [] (t ∷ u ∷ []) e = for_room _ (reallocated_waits (eqb (word_at l t) 0) m.leaving (rule (word_at l t) (word_at l u)) (word_at l t) (word_at l u) m e)
   realloc_told [] (t ∷ u ∷ v ∷ ts) e = absurd cc
 
-  pub wait_told : (a : Action) (ps : List Target) (ts : List ℕ) → acted x n (action_choice rule l a ts) a ps (map (word_at l) ts) m ≡ actions.waits → wants_room (action_waits a ps (map (word_at l) ts)) ≡ is_for_room (blocked_turned (action_choice rule l a ts))
+  pub wait_told : (a : Action) (ps : List Target) (ts : List ℕ) → acted_on_memory x n (action_choice rule l a ts) a ps (map (word_at l) ts) m ≡ actions.waits → wants_room (action_waits a ps (map (word_at l) ts)) ≡ is_for_room (blocked_turned (action_choice rule l a ts))
   wait_told (load how) ps ts e = refl
   wait_told (store how) ps ts e = refl
   wait_told (copy_bytes align same) ps ts e = refl
@@ -291,7 +291,7 @@ guarded_fits : (leaving : Option (List ℕ)) (word : ℕ) (s : Storage) (d : Don
 guarded_fits None word s d h = either_fits (is_live_start s word) d (actions.over (actions.trap word kinds.Free)) h (λ e. absurd cc)
 guarded_fits (Some words) word s d h = h
 
-sized_fits : (x : Layout) (n : ℕ) (l : Words) (m : Memory) (a : Action) (temps : List ℕ) → Operands a temps → acted x n (action_choice (malloc_choice m.storage) l a temps) a [] (map (word_at l) temps) m ≡ actions.unfit → ⊥
+sized_fits : (x : Layout) (n : ℕ) (l : Words) (m : Memory) (a : Action) (temps : List ℕ) → Operands a temps → acted_on_memory x n (action_choice (malloc_choice m.storage) l a temps) a [] (map (word_at l) temps) m ≡ actions.unfit → ⊥
 sized_fits x n l m _ _ (of_malloc size) = allocated_fits (malloc_choice m.storage 0 (word_at l size)) (malloc_given m.storage 0 (word_at l size)) (word_at l size) m
 sized_fits x n l m _ _ (of_calloc count size) = zeroed_fits (malloc_choice m.storage 0 (word_at l count * word_at l size)) (malloc_given m.storage 0 (word_at l count * word_at l size)) (word_at l count * word_at l size) m
 sized_fits x n l m _ _ (of_realloc word size) =
@@ -302,10 +302,10 @@ sized_fits x n l m _ _ (of_realloc word size) =
     (guarded_fits m.leaving w m.storage (renewed choice w k m) (renewed_fits choice (malloc_given m.storage w k) w k m))
 
 pub malloc_fits : (x : Layout) (n : ℕ) (l : Words) (m : Memory) (temps : ℕ) (s : Step) → IsSized temps s
-    → acted x n (action_choice (malloc_choice m.storage) l s.action s.temps) s.action (map (target_of l) s.places) (map (word_at l) s.temps) m ≡ actions.unfit → ⊥
+    → acted_on_memory x n (action_choice (malloc_choice m.storage) l s.action s.temps) s.action (map (target_of l) s.places) (map (word_at l) s.temps) m ≡ actions.unfit → ⊥
 malloc_fits x n l m temps s h e =
     sized_fits x n l m s.action s.temps h.operands
-    (ap (λ (places : List Place). acted x n (action_choice (malloc_choice m.storage) l s.action s.temps) s.action (map (target_of l) places) (map (word_at l) s.temps) m) (sym h.no_places) ∙ e)
+    (ap (λ (places : List Place). acted_on_memory x n (action_choice (malloc_choice m.storage) l s.action s.temps) s.action (map (target_of l) places) (map (word_at l) s.temps) m) (sym h.no_places) ∙ e)
 
 -- ---- how a step that was done is told
 
@@ -428,7 +428,7 @@ module _ (x : Layout) (n : ℕ) (m : Memory) where
 
   changed_keeps : (how : Change) (t : IntType) (a : Target) (by : ℕ) → Keeps (change how t) (changed how t a by m)
   changed_keeps how t a by =
-      let after : Memory = written m a.address (low_bytes (t.bits / 8) (becomes how t (number_at t a.address m) by)) in
+      let after : Memory = written m a.address (low_bytes (t.bits / 8) (word_after_change how t (number_at t a.address m) by)) in
       within_keeps (change how t) kinds.Store (first_outside m.storage.bytes a.address (t.bits / 8)) (actions.went (Some (number_at t a.address m)) after) (as_before (change how t) _ after refl)
 
   compared_keeps : (t : IntType) (a want : Target) (new : ℕ) → Keeps (compare t) (compared t a want new m)
@@ -483,7 +483,7 @@ module _ (x : Layout) (n : ℕ) (m : Memory) where
       either_keeps free (eqb w 0) (actions.went None m) rest (λ null. as_before free None m refl)
       (either_keeps free (is_live_start m.storage w) (actions.went None after) (actions.over (actions.trap w kinds.Free)) (λ live. as_before free None after refl) (was_over _))
 
-  keeps_all : (choice : Choice) (a : Action) (ps : List Target) (ws : List ℕ) → Keeps a (acted x n choice a ps ws m)
+  keeps_all : (choice : Choice) (a : Action) (ps : List Target) (ws : List ℕ) → Keeps a (acted_on_memory x n choice a ps ws m)
   keeps_all choice (load how) [] ws = no_fit
   keeps_all choice (load how) (a ∷ []) [] = plain_keeps (load how) (is_plain choice) (loaded how a m) (loaded_keeps how a)
   keeps_all choice (load how) (a ∷ []) (w ∷ ws) = no_fit
@@ -556,9 +556,9 @@ module _ (x : Layout) (n : ℕ) (m : Memory) where
   of_done : (a : Action) (word : Option ℕ) (after : Memory) → Keeps a (actions.went word after) → AreThreads a x.limits.threads m.threads after.threads × (m.leaving ≡ None → after.leaving ≡ None)
   of_done a _ _ (was_done word after h idle) = (h, idle)
 
-  pub threads_are : (choice : Choice) (a : Action) (ps : List Target) (ws : List ℕ) (word : Option ℕ) (after : Memory) → acted x n choice a ps ws m ≡ actions.went word after → AreThreads a x.limits.threads m.threads after.threads
+  pub threads_are : (choice : Choice) (a : Action) (ps : List Target) (ws : List ℕ) (word : Option ℕ) (after : Memory) → acted_on_memory x n choice a ps ws m ≡ actions.went word after → AreThreads a x.limits.threads m.threads after.threads
   threads_are choice a ps ws word after e = (of_done a word after (subst (Keeps a) e (keeps_all choice a ps ws))).0
 
   -- where no barrier serves before it, none does behind it
-  pub idle_behind : (choice : Choice) (a : Action) (ps : List Target) (ws : List ℕ) (word : Option ℕ) (after : Memory) → acted x n choice a ps ws m ≡ actions.went word after → m.leaving ≡ None → after.leaving ≡ None
+  pub idle_behind : (choice : Choice) (a : Action) (ps : List Target) (ws : List ℕ) (word : Option ℕ) (after : Memory) → acted_on_memory x n choice a ps ws m ≡ actions.went word after → m.leaving ≡ None → after.leaving ≡ None
   idle_behind choice a ps ws word after e = (of_done a word after (subst (Keeps a) e (keeps_all choice a ps ws))).1

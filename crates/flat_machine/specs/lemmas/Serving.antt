@@ -7,7 +7,7 @@ use Rattle.struct_ir.specs.Instrs.{Instr}
 use Rattle.struct_ir.specs.Linear.{instr_here}
 use Rattle.flat_meaning.specs.Accesses as actions
 use Rattle.flat_meaning.specs.Accesses.{allocated, zeroed, renewed, guarded, null}
-use Rattle.flat_meaning.specs.Actions.{acted}
+use Rattle.flat_meaning.specs.Actions.{acted_on_memory}
 use Rattle.flat_meaning.specs.Image.{Layout}
 use Rattle.flat_meaning.specs.Memory.{Memory}
 use Rattle.flat_meaning.specs.Words.{Words, target_of, word_at}
@@ -60,7 +60,7 @@ either : (b : Bool) (d e : actions.Done) → Gives d → Gives e → Gives (cond
 either true d e g h = g
 either false d e g h = h
 
-gives_by : (x : Layout) (k : ℕ) (l : Words) (a : Action) (temps : List ℕ) → Operands a temps → (m : Memory) → is_some m.leaving ≡ true → Gives (acted x k (action_choice (served_choice m.storage) l a temps) a [] (map (word_at l) temps) m)
+gives_by : (x : Layout) (k : ℕ) (l : Words) (a : Action) (temps : List ℕ) → Operands a temps → (m : Memory) → is_some m.leaving ≡ true → Gives (acted_on_memory x k (action_choice (served_choice m.storage) l a temps) a [] (map (word_at l) temps) m)
 gives_by x k l _ _ (of_malloc size) m some = allocates _ _ (word_at l size) m
 gives_by x k l _ _ (of_calloc count size) m some = zeroes _ _ (word_at l count * word_at l size) m
 gives_by x k l _ _ (of_realloc word size) m some =
@@ -70,6 +70,6 @@ gives_by x k l _ _ (of_realloc word size) m some =
     either (eqb w 0) (allocated choice n m) (guarded m.leaving w m.storage (renewed choice w n m)) (allocates _ _ n m) (guards m.leaving w m.storage (renewed choice w n m) some (renews _ _ w n m))
 
 pub gives : (x : Layout) (k : ℕ) (l : Words) (temps : ℕ) (s : Step) → IsSized temps s → (m : Memory) → is_some m.leaving ≡ true
-    → Gives (acted x k (action_choice (served_choice m.storage) l s.action s.temps) s.action (map (target_of l) s.places) (map (word_at l) s.temps) m)
+    → Gives (acted_on_memory x k (action_choice (served_choice m.storage) l s.action s.temps) s.action (map (target_of l) s.places) (map (word_at l) s.temps) m)
 gives x k l temps s h m some =
-    subst (λ (places : List Place). Gives (acted x k (action_choice (served_choice m.storage) l s.action s.temps) s.action (map (target_of l) places) (map (word_at l) s.temps) m)) (sym h.no_places) (gives_by x k l s.action s.temps h.operands m some)
+    subst (λ (places : List Place). Gives (acted_on_memory x k (action_choice (served_choice m.storage) l s.action s.temps) s.action (map (target_of l) places) (map (word_at l) s.temps) m)) (sym h.no_places) (gives_by x k l s.action s.temps h.operands m some)

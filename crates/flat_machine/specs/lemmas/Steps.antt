@@ -32,7 +32,7 @@ use Rattle.ak_words.specs.declared.int_type.IntType.{IntType}
 use Rattle.block_store.specs.declared.values.Change.{Change}
 use Rattle.flat_meaning.specs.Accesses as actions
 use Rattle.flat_meaning.specs.Accesses.{Choice}
-use Rattle.flat_meaning.specs.Actions.{acted, locked, started, unlocked, changed, compared}
+use Rattle.flat_meaning.specs.Actions.{acted_on_memory, locked, started, unlocked, changed, compared}
 use Rattle.flat_meaning.specs.Effects as effects
 use Rattle.flat_meaning.specs.Effects.{Effect, landing, own_list_of}
 use Rattle.ak_trace.specs.declared.endings.End.{End}
@@ -80,7 +80,7 @@ module _ (x : Image Spot) (n : ℕ) (rule : (word size : ℕ) → Choice) (l : W
   join_blocked (a ∷ b ∷ places) temps e = absurd cc
 
   malloc_blocked : (places : List Place) (temps : List ℕ)
-      → acted x.layout n (action_choice rule l malloc temps) malloc (map (target_of l) places) (map (word_at l) temps) m ≡ actions.waits → Some waits.Room ≡ Some for
+      → acted_on_memory x.layout n (action_choice rule l malloc temps) malloc (map (target_of l) places) (map (word_at l) temps) m ≡ actions.waits → Some waits.Room ≡ Some for
       → wait_turned for ≡ blocked_turned (action_choice rule l malloc temps)
   malloc_blocked (a ∷ places) temps e f = absurd cc
   malloc_blocked [] [] e f = absurd cc
@@ -88,7 +88,7 @@ module _ (x : Image Spot) (n : ℕ) (rule : (word size : ℕ) → Choice) (l : W
   malloc_blocked [] (t ∷ []) e f = let is : waits.Room ≡ for = cc in ap wait_turned (sym is) ∙ sym (ap blocked_turned (allocated_waits (rule 0 (word_at l t)) (word_at l t) m e))
 
   calloc_blocked : (places : List Place) (temps : List ℕ)
-      → acted x.layout n (action_choice rule l calloc temps) calloc (map (target_of l) places) (map (word_at l) temps) m ≡ actions.waits → Some waits.Room ≡ Some for
+      → acted_on_memory x.layout n (action_choice rule l calloc temps) calloc (map (target_of l) places) (map (word_at l) temps) m ≡ actions.waits → Some waits.Room ≡ Some for
       → wait_turned for ≡ blocked_turned (action_choice rule l calloc temps)
   calloc_blocked (a ∷ places) temps e f = absurd cc
   calloc_blocked [] [] e f = absurd cc
@@ -97,7 +97,7 @@ module _ (x : Image Spot) (n : ℕ) (rule : (word size : ℕ) → Choice) (l : W
   calloc_blocked [] (t ∷ u ∷ []) e f = let is : waits.Room ≡ for = cc in ap wait_turned (sym is) ∙ sym (ap blocked_turned (zeroed_waits (rule 0 (word_at l t * word_at l u)) (word_at l t * word_at l u) m e))
 
   realloc_blocked : (places : List Place) (temps : List ℕ)
-      → acted x.layout n (action_choice rule l realloc temps) realloc (map (target_of l) places) (map (word_at l) temps) m ≡ actions.waits → Some waits.Room ≡ Some for
+      → acted_on_memory x.layout n (action_choice rule l realloc temps) realloc (map (target_of l) places) (map (word_at l) temps) m ≡ actions.waits → Some waits.Room ≡ Some for
       → wait_turned for ≡ blocked_turned (action_choice rule l realloc temps)
   realloc_blocked (a ∷ places) temps e f = absurd cc
   realloc_blocked [] [] e f = absurd cc
@@ -109,7 +109,7 @@ module _ (x : Image Spot) (n : ℕ) (rule : (word size : ℕ) → Choice) (l : W
 
   -- it is told so
   pub blocked_is : (a : Action) (places : List Place) (temps : List ℕ)
-      → acted x.layout n (action_choice rule l a temps) a (map (target_of l) places) (map (word_at l) temps) m ≡ actions.waits → action_waits a (map (target_of l) places) (map (word_at l) temps) ≡ Some for
+      → acted_on_memory x.layout n (action_choice rule l a temps) a (map (target_of l) places) (map (word_at l) temps) m ≡ actions.waits → action_waits a (map (target_of l) places) (map (word_at l) temps) ≡ Some for
       → wait_turned for ≡ blocked_turned (action_choice rule l a temps)
   blocked_is (load how) places temps e f = absurd cc
   blocked_is (store how) places temps e f = absurd cc
@@ -163,7 +163,7 @@ module _ (x : Image Spot) (n : ℕ) (m : Memory) where
   chosen t h = choice_here (malloc_choice m.storage) t.top.own h
 
   abbrev effect_here : Stage Spot → Thread Spot Words → Here → Effect Spot
-  effect_here stage t h = effects.acted n stage t (own_list_of h) m (outcome_here (chosen t h) t h)
+  effect_here stage t h = effects.effect_of_outcome n stage t (own_list_of h) m (outcome_here (chosen t h) t h)
 
   before_is : (t : Thread Spot Words) (h : Here) (b : Before) → x.flow.here t.top.at ≡ h → before_here t.callers h ≡ b → before x t ≡ b
   before_is t h b here_is is = ap (before_here t.callers) here_is ∙ is
@@ -187,23 +187,23 @@ module _ (x : Image Spot) (n : ℕ) (m : Memory) where
       ∙ ap (λ (h : Here). outcome_turned x n m (chosen t h) h (outcome_here (chosen t h) t h)) here_is
 
   to_look : (stage : Stage Spot) (t : Thread Spot Words) (h : Here) → x.flow.here t.top.at ≡ h → before_here t.callers h ≡ looks
-      → effects.look_before x n stage t m (before x t) ≡ effects.acted n stage t (own_list_of h) m (outcome_here actions.plain t h)
+      → effects.look_before x n stage t m (before x t) ≡ effects.effect_of_outcome n stage t (own_list_of h) m (outcome_here actions.plain t h)
   to_look stage t h here_is is =
       ap (effects.look_before x n stage t m) (before_is t h looks here_is is)
-      ∙ ap (λ (h : Here). effects.acted n stage t (own_list_of h) m (outcome_here actions.plain t h)) here_is
+      ∙ ap (λ (h : Here). effects.effect_of_outcome n stage t (own_list_of h) m (outcome_here actions.plain t h)) here_is
 
 module _ (x : Image Spot) (n : ℕ) (m : Memory) (place : ℕ) (s : Step) where
   abbrev pub choice_at : Words → Choice
   choice_at l = action_choice (malloc_choice m.storage) l s.action s.temps
 
   abbrev pub done_at : Words → actions.Done
-  done_at l = acted x.layout n (choice_at l) s.action (map (target_of l) s.places) (map (word_at l) s.temps) m
+  done_at l = acted_on_memory x.layout n (choice_at l) s.action (map (target_of l) s.places) (map (word_at l) s.temps) m
 
   abbrev pub outcome_at : Thread Spot Words → actions.Done → Outcome Spot Words actions.Fault Memory
   outcome_at t d = served x.flow t (served_by t.top.own s.to d)
 
   pub step_effect_is : (stage : Stage Spot) → IsInCall (Some stage) → x.flow.here (thread_at x stage).top.at ≡ does place (step s)
-      → effect_if x n m (Some stage) (Some AtStep) ≡ effects.acted n stage (thread_at x stage) (own_list s) m (outcome_at (thread_at x stage) (done_at (thread_at x stage).top.own))
+      → effect_if x n m (Some stage) (Some AtStep) ≡ effects.effect_of_outcome n stage (thread_at x stage) (own_list s) m (outcome_at (thread_at x stage) (done_at (thread_at x stage).top.own))
   step_effect_is stage call h = effect_is x n m stage call (does place (step s)) h refl
 
   pub step_turned_is : (stage : Stage Spot) → IsInCall (Some stage) → x.flow.here (thread_at x stage).top.at ≡ does place (step s)
@@ -223,14 +223,14 @@ module _ (x : Image Spot) (n : ℕ) (m : Memory) (place : ℕ) (s : Step) where
   waiting_is (landed list t) call = refl
 
   stage_is : (stage : Stage Spot) → IsInCall (Some stage) → (t : Thread Spot Words) → t ≡ thread_at x stage → x.flow.next t.top.at true ≡ spot_behind t.top.at → (after : Memory) (r : Done)
-      → settled_stage s (Some stage) r ≡ (effects.acted n stage t (own_list s) m (outcome_at t (done_view after r))).stage
+      → settled_stage s (Some stage) r ≡ (effects.effect_of_outcome n stage t (own_list s) m (outcome_at t (done_view after r))).stage
   stage_is stage call t t_is next after (dones.Went None turned) = landed_is stage call None ∙ rw (← t_is, next) refl
   stage_is stage call t t_is next after (dones.Went (Some word) turned) = landed_is stage call (Some word) ∙ rw (← t_is, next) refl
   stage_is stage call t t_is next after (dones.Waits for) = waiting_is stage call ∙ rw (← t_is) refl
   stage_is stage call t t_is next after (dones.Trap word kind) = refl
   stage_is stage call t t_is next after dones.Full = refl
 
-  memory_is : (stage : Stage Spot) (t : Thread Spot Words) (after : Memory) (r : Done) → memory_after m (done_view after r) ≡ (effects.acted n stage t (own_list s) m (outcome_at t (done_view after r))).memory
+  memory_is : (stage : Stage Spot) (t : Thread Spot Words) (after : Memory) (r : Done) → memory_after m (done_view after r) ≡ (effects.effect_of_outcome n stage t (own_list s) m (outcome_at t (done_view after r))).memory
   memory_is stage t after (dones.Went None turned) = refl
   memory_is stage t after (dones.Went (Some word) turned) = refl
   memory_is stage t after (dones.Waits for) = refl
@@ -270,7 +270,7 @@ step_comes x own old new c behind turned stage place s r at call t t_is h next o
     let m : Memory = old.memory in
     let eff = step_effect_is x n m place s stage call (rw (← t_is) h) in
     let tur = step_turned_is x n m place s stage call (rw (← t_is) h) in
-    let eff_t : effect_if x n m (Some stage) (Some AtStep) ≡ effects.acted n stage t (own_list s) m (outcome_at x n m place s t (done_view new.memory r)) = rw d.done_ (rw t_is eff) in
+    let eff_t : effect_if x n m (Some stage) (Some AtStep) ≡ effects.effect_of_outcome n stage t (own_list s) m (outcome_at x n m place s t (done_view new.memory r)) = rw d.done_ (rw t_is eff) in
     let tur_t : turned_of x n m (Some stage) (Some AtStep) ≡ outcome_turned x n m (choice_at x n m place s t.top.own) (does place (step s)) (outcome_at x n m place s t (done_view new.memory r)) = rw d.done_ (rw t_is tur) in
     comes x own old new c behind (turned_view turned) (Some stage) (settled_stage s (Some stage) r) (settled_wait c.wait r) at
     (rw at at settled.context)
@@ -331,8 +331,8 @@ module _ (x : Image Spot) (n : ℕ) (m : Memory) (temp : Option ℕ) where
   leave_outcome t none = ap (λ callers. left_call x.flow (words_world x.layout n) actions.plain t.top.own temp m callers) none
 
   pub leave_effect_is : (stage : Stage Spot) → IsInCall (Some stage) → x.flow.here (thread_at x stage).top.at ≡ returns temp → (thread_at x stage).callers ≡ []
-      → effect_if x n m (Some stage) (Some AtStep) ≡ effects.acted n stage (thread_at x stage) None m (ended (thread_at x stage).top.own (ended_at (thread_at x stage).top.own))
-  leave_effect_is stage call h none = effect_is x n m stage call (returns temp) h (ap before_return none) ∙ ap (effects.acted n stage (thread_at x stage) None m) (leave_outcome (thread_at x stage) none)
+      → effect_if x n m (Some stage) (Some AtStep) ≡ effects.effect_of_outcome n stage (thread_at x stage) None m (ended (thread_at x stage).top.own (ended_at (thread_at x stage).top.own))
+  leave_effect_is stage call h none = effect_is x n m stage call (returns temp) h (ap before_return none) ∙ ap (effects.effect_of_outcome n stage (thread_at x stage) None m) (leave_outcome (thread_at x stage) none)
 
   pub leave_memory_is : (stage : Stage Spot) → IsInCall (Some stage) → x.flow.here (thread_at x stage).top.at ≡ returns temp → (thread_at x stage).callers ≡ []
       → (effect_if x n m (Some stage) (Some AtStep)).memory ≡ ended_at (thread_at x stage).top.own
@@ -405,7 +405,7 @@ counted s a is h =
 
 module _ (x : Layout) (n : ℕ) (rule : (word size : ℕ) → Choice) (l : Words) (m : Memory) (a : Action) (ps xs : List CodePlace) (ts ys : List ℕ) (d : CodePlace) (e : ℕ) (xs_is : xs ≡ ps) (ys_is : ys ≡ ts) where
   abbrev acts : actions.Done
-  acts = acted x n (action_choice rule l a ts) a (map (target_of l) (map place_view ps)) (map (word_at l) ts) m
+  acts = acted_on_memory x n (action_choice rule l a ts) a (map (target_of l) (map place_view ps)) (map (word_at l) ts) m
 
   target_here : (i : ℕ) (to : Target) → to ≡ target_of l (place_view (slice_index_or xs i d)) → to ≡ target_of l (place_view (slice_index_or ps i d))
   target_here i to is = rw (← xs_is) is

@@ -17,7 +17,7 @@ use Rattle.flat_rules.specs.Machine as turns
 use Rattle.flat_meaning.specs.Accesses as actions
 use Rattle.ak_trace.specs.declared.endings.TrapKind.TheVariants as kinds
 use Rattle.flat_meaning.specs.Accesses.{Choice, plain, got, null, wait, allocated, zeroed, renewed, reallocated, guarded, with_copy, is_live_start}
-use Rattle.flat_meaning.specs.Actions.{acted}
+use Rattle.flat_meaning.specs.Actions.{acted_on_memory}
 use Rattle.flat_meaning.specs.Effects.{serve_effect, landing}
 use Rattle.flat_meaning.specs.Image.{Layout, limits_for}
 use Rattle.flat_meaning.specs.Memory.{Memory, with_storage, left_by, words_leaving}
@@ -285,7 +285,7 @@ landing_none p None q = refl
 landing_none p (Some list) q = refl
 
 module _ (p : LinearCode) (s : Shared) (t : Thread Spot Words) (k place : ℕ) (node : Step) (at : slice_get (instrs_of p.funcs t.top.at.function) t.top.at.index ≡ Some (acts place (step node))) where
-  pub serve_is : (m after : Memory) (choice : Choice) (word : Option ℕ) → acted (image_of p s).layout k choice node.action (map (target_of t.top.own) node.places) (map (word_at t.top.own) node.temps) m ≡ actions.went word after
+  pub serve_is : (m after : Memory) (choice : Choice) (word : Option ℕ) → acted_on_memory (image_of p s).layout k choice node.action (map (target_of t.top.own) node.places) (map (word_at t.top.own) node.temps) m ≡ actions.went word after
       → serve_effect (image_of p s) k choice (waiting t) m ≡ record { memory = after; stage = Some (stepped node t word); end = None }
   serve_is m after choice word done = rw (at, done, served_word t.top.own node.to word after, at) refl
 
@@ -359,14 +359,14 @@ reallocated_keeps choice word size m =
     either_done (eqb word 0) m (allocated choice size m) (guarded m.leaving word m.storage (renewed choice word size m)) (allocated_keeps choice size m)
     (guarded_keeps m.leaving word m (renewed choice word size m) (renewed_keeps choice word size m))
 
-keeps_by : (x : Layout) (k : ℕ) (choice : Choice) (l : Words) (a : Action) (temps : List ℕ) → Operands a temps → (m : Memory) → KeepsShape m (memory_of m (acted x k choice a [] (map (word_at l) temps) m))
+keeps_by : (x : Layout) (k : ℕ) (choice : Choice) (l : Words) (a : Action) (temps : List ℕ) → Operands a temps → (m : Memory) → KeepsShape m (memory_of m (acted_on_memory x k choice a [] (map (word_at l) temps) m))
 keeps_by x k choice l _ _ (of_malloc size) m = allocated_keeps choice (word_at l size) m
 keeps_by x k choice l _ _ (of_calloc count size) m = zeroed_keeps choice (word_at l count * word_at l size) m
 keeps_by x k choice l _ _ (of_realloc word size) m = reallocated_keeps choice (word_at l word) (word_at l size) m
 
-pub keeps : (x : Layout) (k : ℕ) (choice : Choice) (l : Words) (temps : ℕ) (s : Step) → IsSized temps s → (m after : Memory) (word : Option ℕ) → acted x k choice s.action (map (target_of l) s.places) (map (word_at l) s.temps) m ≡ actions.went word after → KeepsShape m after
+pub keeps : (x : Layout) (k : ℕ) (choice : Choice) (l : Words) (temps : ℕ) (s : Step) → IsSized temps s → (m after : Memory) (word : Option ℕ) → acted_on_memory x k choice s.action (map (target_of l) s.places) (map (word_at l) s.temps) m ≡ actions.went word after → KeepsShape m after
 keeps x k choice l temps s h m after word is =
-    let none : acted x k choice s.action [] (map (word_at l) s.temps) m ≡ actions.went word after = ap (λ (places : List Place). acted x k choice s.action (map (target_of l) places) (map (word_at l) s.temps) m) (sym h.no_places) ∙ is in
+    let none : acted_on_memory x k choice s.action [] (map (word_at l) s.temps) m ≡ actions.went word after = ap (λ (places : List Place). acted_on_memory x k choice s.action (map (target_of l) places) (map (word_at l) s.temps) m) (sym h.no_places) ∙ is in
     subst (KeepsShape m) (ap (memory_of m) none) (keeps_by x k choice l s.action s.temps h.operands m)
 
 -- ---- words that leave
@@ -418,7 +418,7 @@ guarded_leaves : (leaving : Option (List ℕ)) (word : ℕ) (m : Memory) (d : ac
 guarded_leaves None word m d h = either_left (is_live_start m.storage word) m d (actions.over (actions.trap word kinds.Free)) h (no_more m)
 guarded_leaves (Some words) word m d h = h
 
-leaves_by : (x : Layout) (k : ℕ) (choice : Choice) (l : Words) (a : Action) (temps : List ℕ) → Operands a temps → (m : Memory) → LeavesOne m (memory_of m (acted x k choice a [] (map (word_at l) temps) m))
+leaves_by : (x : Layout) (k : ℕ) (choice : Choice) (l : Words) (a : Action) (temps : List ℕ) → Operands a temps → (m : Memory) → LeavesOne m (memory_of m (acted_on_memory x k choice a [] (map (word_at l) temps) m))
 leaves_by x k choice l _ _ (of_malloc size) m = allocated_leaves choice (word_at l size) m
 leaves_by x k choice l _ _ (of_calloc count size) m = zeroed_leaves choice (word_at l count * word_at l size) m
 leaves_by x k choice l _ _ (of_realloc word size) m =
@@ -426,9 +426,9 @@ leaves_by x k choice l _ _ (of_realloc word size) m =
     let n = word_at l size in
     either_left (eqb w 0) m (allocated choice n m) (guarded m.leaving w m.storage (renewed choice w n m)) (allocated_leaves choice n m) (guarded_leaves m.leaving w m (renewed choice w n m) (renewed_leaves choice w n m))
 
-pub leaves : (x : Layout) (k : ℕ) (choice : Choice) (l : Words) (temps : ℕ) (s : Step) → IsSized temps s → (m after : Memory) (word : Option ℕ) → acted x k choice s.action (map (target_of l) s.places) (map (word_at l) s.temps) m ≡ actions.went word after → LeavesOne m after
+pub leaves : (x : Layout) (k : ℕ) (choice : Choice) (l : Words) (temps : ℕ) (s : Step) → IsSized temps s → (m after : Memory) (word : Option ℕ) → acted_on_memory x k choice s.action (map (target_of l) s.places) (map (word_at l) s.temps) m ≡ actions.went word after → LeavesOne m after
 leaves x k choice l temps s h m after word is =
-    let none : acted x k choice s.action [] (map (word_at l) s.temps) m ≡ actions.went word after = ap (λ (places : List Place). acted x k choice s.action (map (target_of l) places) (map (word_at l) s.temps) m) (sym h.no_places) ∙ is in
+    let none : acted_on_memory x k choice s.action [] (map (word_at l) s.temps) m ≡ actions.went word after = ap (λ (places : List Place). acted_on_memory x k choice s.action (map (target_of l) places) (map (word_at l) s.temps) m) (sym h.no_places) ∙ is in
     subst (LeavesOne m) (ap (memory_of m) none) (leaves_by x k choice l s.action s.temps h.operands m)
 
 -- ---- what is told
@@ -477,7 +477,7 @@ module _ (p : LinearCode) (old mid new : Shared) (c d : Context) (i : Instr) (b 
   choice = action_choice (served_choice old.memory.storage) own node.action node.temps
 
   abbrev done_by : Memory → actions.Done
-  done_by m = acted (image_of p old).layout c.number choice node.action (map (target_of own) node.places) (map (word_at own) node.temps) m
+  done_by m = acted_on_memory (image_of p old).layout c.number choice node.action (map (target_of own) node.places) (map (word_at own) node.temps) m
 
   pub served_is : Does old mid (dones.Went word turned) (done_by old.memory) → turned_view turned ≡ malloc_turned choice → d ≡ standing c (landed_stage node c.stage word) None
       → new ≡ record mid { made = mid.made ++ served_with 0 c.number (object_told turned) ∷ [] } → IsServed p old new c d

@@ -32,14 +32,14 @@ pub record StandsIn {P : Type 0} (x : Image P) (p : Ir) (thread : ℕ) (names : 
       → (base < length q.own.temps) × SlotAgrees names k.own.blocks s (k.own.temps base) (slot_at q.own.slots slot)
 
 -- the turn begins among these blocks, of which so many were made before the thread stopped last
-pub data Reaches {P : Type 0} (x : Image P) (p : Ir) (thread before : ℕ) (first : List Name) (blocks : Blocks) (s : Storage) (k : Point P Own) (q : Point P Words) : Type 0 where
+pub data CatchesUpInTurn {P : Type 0} (x : Image P) (p : Ir) (thread before : ℕ) (first : List Name) (blocks : Blocks) (s : Storage) (k : Point P Own) (q : Point P Words) : Type 0 where
   comes : (y : Point P Own) (names : List Name) → Steps x.flow (blocks_machine p) (in_blocks blocks k) y → Far x.layout before first blocks names thread y.own q.own
-      → StandsIn x p thread names (KnownIn before (length blocks)) s y q → Reaches x p thread before first blocks s k q
-  breaks : (f : Fault) → run x.flow (blocks_machine p) (in_blocks blocks k) ≡ Err f → Reaches x p thread before first blocks s k q
+      → StandsIn x p thread names (KnownIn before (length blocks)) s y q → CatchesUpInTurn x p thread before first blocks s k q
+  breaks : (f : Fault) → run x.flow (blocks_machine p) (in_blocks blocks k) ≡ Err f → CatchesUpInTurn x p thread before first blocks s k q
 
 -- from the present blocks, and from any to which they age
 abbrev pub InTurn : {P : Type 0} → Image P → Ir → (thread : ℕ) → List Name → Blocks → Storage → Point P Own → Point P Words → Type 0
-InTurn x p thread names blocks s k q = (all : List Name) (later : Blocks) → Aged names all blocks later → Reaches x p thread (length blocks) all later s k q
+InTurn x p thread names blocks s k q = (all : List Name) (later : Blocks) → Aged names all blocks later → CatchesUpInTurn x p thread (length blocks) all later s k q
 
 -- ---- what others' turns may do
 

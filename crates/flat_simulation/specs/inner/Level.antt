@@ -7,9 +7,9 @@ use Rattle.struct_ir.specs.Alike.{LevelThreads, SameThreads}
 use Rattle.flat_meaning.specs.Image.{Layout, Image}
 use Rattle.flat_meaning.specs.Words.{Words}
 use Rattle.flat_meaning.specs.Memory.{Memory}
-use Rattle.flat_meaning.specs.Stages.{Stage, starts, going, waiting, landed, Gone}
+use Rattle.flat_meaning.specs.Stages.{Stage, starts, going, waiting, landed, Advance}
 use Rattle.flat_meaning.specs.Effects.{Effect}
-use Rattle.flat_meaning.specs.Events.{State}
+use Rattle.flat_meaning.specs.Events.{MachineState}
 
 -- code, where its functions begin, and the rest of a program
 abbrev pub image : {P : Type 0} → Flow P → (ℕ → P) → Layout → Image P
@@ -22,7 +22,7 @@ module _ {P Q : Type 0} (C : Flow P) (D : Flow Q) (R : P → Q → Type 0) where
     level : LevelThreads C D R t u → (IsCall (D.here u.top.at) → ⊥) → Near t u
 
   -- they went on alone alike
-  abbrev pub GonesMatch : Gone P → Gone Q → Type 0
+  abbrev pub GonesMatch : Advance P → Advance Q → Type 0
   GonesMatch g h = (h.turns ≡ g.turns) × Near g.thread h.thread
 
   -- their stages, by kind
@@ -47,7 +47,7 @@ module _ {P Q : Type 0} (C : Flow P) (D : Flow Q) (R : P → Q → Type 0) where
     pub each : (n : ℕ) → StagesMatch (own_at own n) (own_at other n)
 
   -- the same is shared, and as long as the run hasn't ended all stages match
-  pub record StatesMatch (s : State P) (r : State Q) : Type 0 where
+  pub record StatesMatch (s : MachineState P) (r : MachineState Q) : Type 0 where
     pub memory : r.memory ≡ s.memory
     pub end : r.end ≡ s.end
     pub stages : r.end ≡ None → OwnsMatch s.memory s.own r.own

@@ -6,7 +6,7 @@ use Rattle.flat_meaning.specs.Memory.{Memory}
 use Rattle.flat_meaning.specs.Accesses as actions
 use Rattle.flat_meaning.specs.Accesses.{Fault, Done}
 use Rattle.flat_meaning.specs.Effects.{Effect}
-use Rattle.flat_meaning.specs.Events.{State}
+use Rattle.flat_meaning.specs.Events.{MachineState}
 
 -- in what threads share
 abbrev pub Agree : Memory → Type 0
@@ -39,5 +39,5 @@ abbrev pub AgreeBehind : {P : Type 0} → Effect P → Type 0
 AgreeBehind e = Agree e.memory
 
 -- in a state
-abbrev pub AgreeIn : {P : Type 0} → State P → Type 0
+abbrev pub AgreeIn : {P : Type 0} → MachineState P → Type 0
 AgreeIn s = Agree s.memory

@@ -19,7 +19,7 @@ use Rattle.flat_meaning.specs.Memory.{Memory}
 use Rattle.flat_meaning.specs.Accesses as words
 use Rattle.flat_meaning.specs.Stages.{Stage, starts, going, waiting, landed}
 use Rattle.flat_meaning.specs.Effects.{landing}
-use Rattle.flat_meaning.specs.Events.{State}
+use Rattle.flat_meaning.specs.Events.{MachineState}
 use Rattle.flat_meaning.specs.Names.{Name}
 use Rattle.flat_meaning.specs.Stands.{in_blocks}
 use Rattle.flat_simulation.specs.inner.Values.{AnyBlock, PointerStands}
@@ -97,7 +97,7 @@ StageStands x p thread names blocks s None None = Unit {0}
 -- ---- the state
 
 -- what is shared stands, and so does each thread; each has its place in both lists, and the stacks of those that weren't made are free
-pub record StateStands {P : Type 0} (x : Image P) (p : Ir) (names : List Name) (u : runs.State (Thread P Own)) (s : State P) : Type 0 where
+pub record StateStands {P : Type 0} (x : Image P) (p : Ir) (names : List Name) (u : runs.State (Thread P Own)) (s : MachineState P) : Type 0 where
   pub world : WorldStands x.layout p names u.world s.memory
   pub count : length s.own ≡ length u.own
   pub made : length u.own ≡ length u.world.threads

@@ -3,7 +3,7 @@ use Rattle.std.specs.Prelude.{◌≡◌, ◌==◌, not, ℕ, List, [], ◌∷◌
 use Rattle.struct_ir.specs.Nodes.{Act, set, call, step, look, safepoint, begin_object, end_object, Node, plain, if_, loop, break_, next_, ret, Nodes, no_nodes, more_nodes, Func, Ir, node_place}
 use Rattle.struct_ir.specs.Structured.{done, then_, structured}
 use Rattle.struct_ir.specs.Erased.{put, erased}
-use Rattle.pin_flow.specs.Marks.{State, unreached, good, bad, end_state, head_of, flow, flow_node}
+use Rattle.pin_flow.specs.Marks.{AllPaths, unreached, good, bad, end_state, head_of, flow, flow_node}
 use Rattle.pin_flow.specs.Looks.{act_looks, act_assigns, some_act, Covered, Hoisted}
 use Rattle.pin_flow.specs.Held.{held, HoistedThroughout}
 use Rattle.pin_flow.specs.Slots.{slot_if, bases_of, IsOwn, IsIn, AreApart}
@@ -35,13 +35,13 @@ abbrev mutual
 -- ---- then: no Look where its register is held, or where no path comes
 
 -- some path says no
-abbrev pub is_bad : State → Bool
+abbrev pub is_bad : AllPaths → Bool
 is_bad unreached = false
 is_bad good = false
 is_bad bad = true
 
 -- the node stays: it is no Look of b, or it is needed
-abbrev pub needs : (b : ℕ) → Node → State → Bool
+abbrev pub needs : (b : ℕ) → Node → AllPaths → Bool
 needs b (plain place a) t = not (act_looks b a) || is_bad t
 needs b (if_ place temp one other) t = true
 needs b (loop place body latch) t = true
@@ -50,11 +50,11 @@ needs b (next_ place) t = true
 needs b (ret place temp) t = true
 
 abbrev mutual
-  pub dropped : (b : ℕ) → Nodes → State → Nodes
+  pub dropped : (b : ℕ) → Nodes → AllPaths → Nodes
   dropped b no_nodes t = no_nodes
   dropped b (more_nodes n rest) t = put (needs b n t) (dropped_in b n t) (dropped b rest (flow_node (held b) n t).on)
 
-  pub dropped_in : (b : ℕ) → Node → State → Node
+  pub dropped_in : (b : ℕ) → Node → AllPaths → Node
   dropped_in b (plain place a) t = plain place a
   dropped_in b (if_ place temp one other) t = if_ place temp (dropped b one t) (dropped b other t)
   dropped_in b (loop place body latch) t =
@@ -119,7 +119,7 @@ abbrev mutual
   lifted_all_in slot_of bs (ret place temp) = ret place temp
 
 -- the act stays: it is no Look of such a register, or some path comes that doesn't hold it
-abbrev pub stays : (those : ℕ → Bool) → Act → (ℕ → State) → Bool
+abbrev pub stays : (those : ℕ → Bool) → Act → (ℕ → AllPaths) → Bool
 stays those (set to calc) t = true
 stays those (call c) t = true
 stays those (step x) t = true
@@ -129,7 +129,7 @@ stays those (begin_object i) t = true
 stays those (end_object i) t = true
 
 -- so does the node, if it is an act
-abbrev pub node_stays : (those : ℕ → Bool) → Node → (ℕ → State) → Bool
+abbrev pub node_stays : (those : ℕ → Bool) → Node → (ℕ → AllPaths) → Bool
 node_stays those (plain place a) t = stays those a t
 node_stays those (if_ place temp one other) t = true
 node_stays those (loop place body latch) t = true
@@ -139,15 +139,15 @@ node_stays those (ret place temp) t = true
 
 -- what stays of a row, where these are the states of registers before it
 abbrev mutual
-  pub dropped_all : (those : ℕ → Bool) → Nodes → (ℕ → State) → Nodes
+  pub dropped_all : (those : ℕ → Bool) → Nodes → (ℕ → AllPaths) → Nodes
   dropped_all those no_nodes t = no_nodes
   dropped_all those (more_nodes n rest) t = put (node_stays those n t) (dropped_all_in those n t) (dropped_all those rest (λ b. (flow_node (held b) n (t b)).on))
 
-  pub dropped_all_in : (those : ℕ → Bool) → Node → (ℕ → State) → Node
+  pub dropped_all_in : (those : ℕ → Bool) → Node → (ℕ → AllPaths) → Node
   dropped_all_in those (plain place a) t = plain place a
   dropped_all_in those (if_ place temp one other) t = if_ place temp (dropped_all those one t) (dropped_all those other t)
   dropped_all_in those (loop place body latch) t =
-      let h : ℕ → State = λ b. head_of (flow (held b) body) (flow (held b) latch) (t b) in
+      let h : ℕ → AllPaths = λ b. head_of (flow (held b) body) (flow (held b) latch) (t b) in
       loop place (dropped_all those body h) (dropped_all those latch (λ b. end_state (flow (held b) body (h b))))
   dropped_all_in those (break_ place) t = break_ place
   dropped_all_in those (next_ place) t = next_ place

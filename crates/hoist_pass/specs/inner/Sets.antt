@@ -3,7 +3,7 @@ use Rattle.std.specs.Prelude.{◌≡◌, ◌<◌, ◌^◌, ◌||◌, ℕ, suc, l
 use Rattle.struct_ir.specs.Nodes.{Node, plain, if_, loop, break_, next_, ret, look, Nodes}
 use Rattle.struct_ir.specs.Erased.{put}
 use Rattle.pin_flow.specs.declared.mark.Mark.TheVariants as kinds
-use Rattle.pin_flow.specs.Marks.{State, unreached, Ways, ways, in_turn, flow_node}
+use Rattle.pin_flow.specs.Marks.{AllPaths, unreached, Ways, ways, in_turn, flow_node}
 use Rattle.pin_flow.specs.Held.{held}
 use Rattle.pin_flow.specs.Slots.{slot_if}
 use Rattle.mark_sets.specs.declared.marks.Marks.{Marks}
@@ -21,12 +21,12 @@ abbrev pub has_bit : Marks → (b : ℕ) → Bool
 has_bit x b = is_some (bit x b)
 
 -- the state of the mark of this bit; without a bit, that no path comes
-abbrev pub state_by : Option ℕ → Sets ℕ → State
+abbrev pub state_by : Option ℕ → Sets ℕ → AllPaths
 state_by None t = unreached
 state_by (Some i) t = state_at i t
 
 -- the state of each register
-abbrev pub states : Marks → Sets ℕ → (b : ℕ) → State
+abbrev pub states : Marks → Sets ℕ → (b : ℕ) → AllPaths
 states x t b = state_by (bit x b) t
 
 -- where control leaves a row, for the mark of this bit

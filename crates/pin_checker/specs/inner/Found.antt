@@ -1,7 +1,7 @@
 -- What a search finds in nodes by itself, from either state in which a path comes to them.
 use Rattle.std.specs.Prelude.{Option, Some, None, Bool, true, false}
 use Rattle.struct_ir.specs.Nodes.{Node, plain, if_, loop, break_, next_, ret, Nodes}
-use Rattle.pin_flow.specs.Marks.{State, unreached, good, bad, join, Ways, at, either, in_turn, end_state, turned, flow, flow_node}
+use Rattle.pin_flow.specs.Marks.{AllPaths, unreached, good, bad, join, Ways, at, either, in_turn, end_state, turned, flow, flow_node}
 use Rattle.pin_flow.specs.Views.{ways_view}
 use Rattle.pin_checker.specs.declared.fault.Fault.{Fault}
 use Rattle.pin_checker.specs.declared.found.Found.{Found as CodeFound}
@@ -14,11 +14,11 @@ pub record Found : Type 0 where
   pub first : Option Fault
 
 -- in a row
-abbrev pub found_in : Search → Nodes → State → Found
+abbrev pub found_in : Search → Nodes → AllPaths → Found
 found_in s ns t = record { ways = flow s.mark ns t; first = report s ns t None }
 
 -- in a node
-abbrev pub found_at : Search → Node → State → Found
+abbrev pub found_at : Search → Node → AllPaths → Found
 found_at s n t = record { ways = flow_node s.mark n t; first = report_node s n t None }
 
 -- the node holds no others
@@ -36,11 +36,11 @@ pub record Both : Type 0 where
   pub bad : Found
 
 -- of what is found from each state
-abbrev pub both_of : (State → Found) → Both
+abbrev pub both_of : (AllPaths → Found) → Both
 both_of f = record { good = f good; bad = f bad }
 
 -- what is found from a state; where no path comes, nothing is
-abbrev pub from : Both → State → Found
+abbrev pub from : Both → AllPaths → Found
 from b unreached = record { ways = at unreached; first = None }
 from b good = b.good
 from b bad = b.bad
@@ -59,14 +59,14 @@ abbrev pub one_of : Found → Found → Found
 one_of a b = record { ways = either a.ways b.ways; first = earlier_of a.first b.first }
 
 -- a body from this state, and then the step from where the body leads
-abbrev pub round_from : (body latch : Both) → State → Found
+abbrev pub round_from : (body latch : Both) → AllPaths → Found
 round_from body latch t = record {
   ways = turned (from body t).ways (from latch (end_state (from body t).ways)).ways;
   first = earlier_of (from body t).first (from latch (end_state (from body t).ways)).first;
 }
 
 -- a loop: one round from the state before it tells where each round starts
-abbrev pub looped : (body latch : Both) → State → Found
+abbrev pub looped : (body latch : Both) → AllPaths → Found
 looped body latch t = record {
   ways = at (round_from body latch (join t (round_from body latch t).ways.on)).ways.broken;
   first = (round_from body latch (join t (round_from body latch t).ways.on)).first;

@@ -3,7 +3,7 @@ use Rattle.std.specs.Prelude.{ℕ, List, [], ◌∷◌, ◌++◌, Option, Some, 
 use Rattle.struct_ir.specs.Nodes.{Place, Act, Node, plain, if_, loop, break_, next_, ret, Nodes, no_nodes, more_nodes, Func, Ir, places_of, list_of, node_place}
 use Rattle.struct_ir.specs.Pins.{lacks_if}
 use Rattle.struct_ir.specs.Valid.{Scope, Around, body_of, latch_of, outside, scope_of, list_at}
-use Rattle.pin_flow.specs.Marks.{Mark, State, unreached, good, bad, state_of, flow, flow_node, head_of, end_state}
+use Rattle.pin_flow.specs.Marks.{Mark, AllPaths, unreached, good, bad, state_of, flow, flow_node, head_of, end_state}
 use Rattle.pin_flow.specs.Held.{held, filled, filled_for, fresh, pinned}
 use Rattle.pin_flow.specs.Live.{uses}
 use Rattle.pin_checker.specs.declared.fault.Why.{Why}
@@ -50,17 +50,17 @@ unfoldable mutual
 pub record Search : Type 0 where
   pub mark : Mark
   pub start : Bool
-  pub blames : Act → State → Bool
+  pub blames : Act → AllPaths → Bool
   pub why : Why
 
 -- on some path the answer is no
-abbrev pub is_bad : State → Bool
+abbrev pub is_bad : AllPaths → Bool
 is_bad unreached = false
 is_bad good = false
 is_bad bad = true
 
 -- on each path that comes here the answer is yes
-abbrev pub is_good : State → Bool
+abbrev pub is_good : AllPaths → Bool
 is_good unreached = false
 is_good good = true
 is_good bad = false
@@ -96,11 +96,11 @@ abbrev pub for_bare : Search
 for_bare = record { mark = held 0; start = false; blames = λ a t. has_bare (places_of a) && (is_bad t || is_good t); why = NoLook }
 
 unfoldable mutual
-  pub report : Search → Nodes → State → Option Fault → Option Fault
+  pub report : Search → Nodes → AllPaths → Option Fault → Option Fault
   report s no_nodes t best = best
   report s (more_nodes n rest) t best = report s rest (flow_node s.mark n t).on (report_node s n t best)
 
-  pub report_node : Search → Node → State → Option Fault → Option Fault
+  pub report_node : Search → Node → AllPaths → Option Fault → Option Fault
   report_node s (plain place a) t best = noted (s.blames a t) place s.why best
   report_node s (if_ place temp one other) t best = report s other t (report s one t best)
   report_node s (loop place body latch) t best =

@@ -1,7 +1,7 @@
 -- What the code's searches are.
 use Rattle.std.specs.Prelude.{Bool, false}
 use Rattle.struct_ir.specs.Nodes.{Node, plain, if_, loop, break_, next_, ret, places_of}
-use Rattle.pin_flow.specs.Marks.{State}
+use Rattle.pin_flow.specs.Marks.{AllPaths}
 use Rattle.pin_checker.specs.declared.search.Search.{Search as CodeSearch}
 use Rattle.pin_checker.specs.declared.search.Search.TheVariants as searches
 use Rattle.pin_checker.specs.inner.Reports.{Search, for_other, for_none, for_stale, for_lacking, for_bare, has_bare}
@@ -15,7 +15,7 @@ search_view (searches.Lacking q) = for_lacking q
 search_view searches.Bare = for_bare
 
 -- the act of the node fails in the state
-abbrev pub blames_at : Search → Node → State → Bool
+abbrev pub blames_at : Search → Node → AllPaths → Bool
 blames_at s (plain place a) t = s.blames a t
 blames_at s (if_ place temp one other) t = false
 blames_at s (loop place body latch) t = false

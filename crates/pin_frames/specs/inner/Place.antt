@@ -5,7 +5,7 @@ use Rattle.struct_ir.specs.Structured.{done, then_, structured}
 use Rattle.struct_ir.specs.Pins.{PinSafe}
 use Rattle.struct_ir.specs.Erased.{erased}
 use Rattle.struct_ir.specs.Valid.{are_placed}
-use Rattle.pin_flow.specs.Marks.{State, unreached, good, bad, end_state, head_of, flow, flow_node}
+use Rattle.pin_flow.specs.Marks.{AllPaths, unreached, good, bad, end_state, head_of, flow, flow_node}
 use Rattle.pin_flow.specs.Looks.{some_act, Covered, PinsExact}
 use Rattle.pin_flow.specs.Held.{held}
 use Rattle.pin_flow.specs.Points.{PinsExactAtPoints}
@@ -69,31 +69,31 @@ act_listing (begin_object i) list = begin_object i
 act_listing (end_object i) list = end_object i
 
 -- some path says no
-abbrev pub is_bad : State → Bool
+abbrev pub is_bad : AllPaths → Bool
 is_bad unreached = false
 is_bad good = false
 is_bad bad = true
 
 -- in the state, and with its accesses used later or not, the slot of b is listed
-abbrev pub wanted : (ℕ → ℕ) → (b : ℕ) → Act → State → Bool → Bool
+abbrev pub wanted : (ℕ → ℕ) → (b : ℕ) → Act → AllPaths → Bool → Bool
 wanted slot_of b a t later = (not (is_bad t) && later) || uses (slot_of b) b a
 
 -- the slots that the list has, of all registers
-abbrev pub list_for : (ℕ → ℕ) → List ℕ → Act → (ℕ → State) → (ℕ → Bool) → List ℕ
+abbrev pub list_for : (ℕ → ℕ) → List ℕ → Act → (ℕ → AllPaths) → (ℕ → Bool) → List ℕ
 list_for slot_of [] a ts later = []
 list_for slot_of (b ∷ bs) a ts later =
     if wanted slot_of b a (ts b) (later b) then slot_of b ∷ list_for slot_of bs a ts later else list_for slot_of bs a ts later
 
 -- what the registers' states and lives are in a loop's body, and in its step
-abbrev pub heads : Nodes → Nodes → (ℕ → State) → ℕ → State
+abbrev pub heads : Nodes → Nodes → (ℕ → AllPaths) → ℕ → AllPaths
 heads body latch ts b = head_of (flow (held b) body) (flow (held b) latch) (ts b)
 
 -- the states at the start of a loop's step
-abbrev pub turns : Nodes → Nodes → (ℕ → State) → ℕ → State
+abbrev pub turns : Nodes → Nodes → (ℕ → AllPaths) → ℕ → AllPaths
 turns body latch ts b = end_state (flow (held b) body (heads body latch ts b))
 
 -- the states behind a node
-abbrev pub on_states : Node → (ℕ → State) → ℕ → State
+abbrev pub on_states : Node → (ℕ → AllPaths) → ℕ → AllPaths
 on_states n ts b = (flow_node (held b) n (ts b)).on
 
 -- what comes later at the start of the rest of a row
@@ -101,11 +101,11 @@ abbrev pub rest_lives : (ℕ → ℕ) → Nodes → (ℕ → Live) → ℕ → L
 rest_lives slot_of rest ls b = lives (live (slot_of b) b rest (ls b)) (ls b).out (ls b).end
 
 abbrev mutual
-  pub listed : (ℕ → ℕ) → List ℕ → Nodes → (ℕ → State) → (ℕ → Live) → Nodes
+  pub listed : (ℕ → ℕ) → List ℕ → Nodes → (ℕ → AllPaths) → (ℕ → Live) → Nodes
   listed slot_of bs no_nodes ts ls = no_nodes
   listed slot_of bs (more_nodes n rest) ts ls = more_nodes (listed_in slot_of bs n ts (rest_lives slot_of rest ls)) (listed slot_of bs rest (on_states n ts) ls)
 
-  pub listed_in : (ℕ → ℕ) → List ℕ → Node → (ℕ → State) → (ℕ → Live) → Node
+  pub listed_in : (ℕ → ℕ) → List ℕ → Node → (ℕ → AllPaths) → (ℕ → Live) → Node
   listed_in slot_of bs (plain place a) ts ls = plain place (act_listing a (list_for slot_of bs a ts (λ b. live_act (slot_of b) b a (ls b).on)))
   listed_in slot_of bs (if_ place temp one other) ts ls = if_ place temp (listed slot_of bs one ts ls) (listed slot_of bs other ts ls)
   listed_in slot_of bs (loop place body latch) ts ls =
@@ -116,7 +116,7 @@ abbrev mutual
   listed_in slot_of bs (ret place temp) ts ls = ret place temp
 
 -- at the start no register is held, and at the end no slot is used
-abbrev pub none_held : ℕ → State
+abbrev pub none_held : ℕ → AllPaths
 none_held b = bad
 
 -- nothing comes behind a function's end
@@ -183,11 +183,11 @@ has_list (begin_object i) = false
 has_list (end_object i) = false
 
 -- the slot of b is listed there
-abbrev pub wants : (slot b : ℕ) → Act → State → Bool → Bool
+abbrev pub wants : (slot b : ℕ) → Act → AllPaths → Bool → Bool
 wants slot b a t later = (not (is_bad t) && live_act slot b a later) || uses slot b a
 
 -- at a node that is an act
-abbrev pub node_wants : (slot b : ℕ) → Node → State → Bool → Bool
+abbrev pub node_wants : (slot b : ℕ) → Node → AllPaths → Bool → Bool
 node_wants slot b n t later = (not (is_bad t) && (act_is (uses slot b) n || (not (looks_slot slot n) && later))) || act_is (uses slot b) n
 
 -- with the slot in the node's own list too, if it has one
@@ -200,11 +200,11 @@ listed_own slot y (next_ place) = next_ place
 listed_own slot y (ret place temp) = ret place temp
 
 abbrev mutual
-  pub listed_one : (slot b : ℕ) → Nodes → State → Live → Nodes
+  pub listed_one : (slot b : ℕ) → Nodes → AllPaths → Live → Nodes
   listed_one slot b no_nodes t l = no_nodes
   listed_one slot b (more_nodes n rest) t l = more_nodes (listed_one_in slot b n t (lives (live slot b rest l) l.out l.end)) (listed_one slot b rest (flow_node (held b) n t).on l)
 
-  pub listed_one_in : (slot b : ℕ) → Node → State → Live → Node
+  pub listed_one_in : (slot b : ℕ) → Node → AllPaths → Live → Node
   listed_one_in slot b (plain place a) t l = plain place (act_adding slot (wants slot b a t l.on) a)
   listed_one_in slot b (if_ place temp one other) t l = if_ place temp (listed_one slot b one t l) (listed_one slot b other t l)
   listed_one_in slot b (loop place body latch) t l =

@@ -5,7 +5,7 @@ use Rattle.struct_ir.specs.Linear.{Spot}
 use Rattle.struct_ir.specs.Machine.{Point}
 use Rattle.struct_ir.specs.InstrViews.{instr_view, instr_kind_view}
 use Rattle.struct_ir.specs.Views.{step_view}
-use Rattle.flat_meaning.specs.Actions.{acted}
+use Rattle.flat_meaning.specs.Actions.{acted_on_memory}
 use Rattle.flat_meaning.specs.Ready.{takes_room}
 use Rattle.flat_meaning.specs.Words.{Words, target_of, word_at}
 use Rattle.flat_threads.specs.Deeds.{landed_stage, top_of}
@@ -58,7 +58,7 @@ returns-in_default-serve c =
     let ctx = c.args.ctx.now in
     let takes : takes_room (step_view c.in-Step.node).action ≡ true = ap (λ (s : Step). takes_room s.action) same ∙ b.at.action in
     let given = gives (image_of code old).layout ctx.number b.thread.top.own (length b.thread.top.own.temps) b.at.node b.at.has old.memory c.requires.serves in
-    let done_at = λ (q : Point Spot Words) (s : Step). acted (image_of code old).layout ctx.number (action_choice (served_choice old.memory.storage) q.own s.action s.temps) s.action (map (target_of q.own) s.places) (map (word_at q.own) s.temps) old.memory in
+    let done_at = λ (q : Point Spot Words) (s : Step). acted_on_memory (image_of code old).layout ctx.number (action_choice (served_choice old.memory.storage) q.own s.action s.temps) s.action (map (target_of q.own) s.places) (map (word_at q.own) s.temps) old.memory in
     let did = (c.serve.ensures.does code takes).done_ ∙ ap (λ (s : Step). done_at (top_of ctx) s) same ∙ ap (λ (q : Point Spot Words). done_at q b.at.node) b.top ∙ given.is in
     let went = went_only c.serve.result c.serve.new.self.memory given.word given.after did in
     absurd (c.in_default-serve.not-Went went.0 went.1 went.2)
@@ -93,7 +93,7 @@ returns-in-Went c =
     let word = c.in-Went.word in
     let turned = c.in-Went.turned in
     let takes : takes_room (step_view c.in-Step.node).action ≡ true = ap (λ (s : Step). takes_room s.action) same ∙ b.at.action in
-    let does_at = λ (q : Point Spot Words) (s : Step). Does old mid (dones.Went word turned) (acted (image_of code old).layout ctx.number (action_choice (served_choice old.memory.storage) q.own s.action s.temps) s.action (map (target_of q.own) s.places) (map (word_at q.own) s.temps) old.memory) in
+    let does_at = λ (q : Point Spot Words) (s : Step). Does old mid (dones.Went word turned) (acted_on_memory (image_of code old).layout ctx.number (action_choice (served_choice old.memory.storage) q.own s.action s.temps) s.action (map (target_of q.own) s.places) (map (word_at q.own) s.temps) old.memory) in
     let told_at = λ (q : Point Spot Words) (s : Step). turned_view turned ≡ malloc_turned (action_choice (served_choice old.memory.storage) q.own s.action s.temps) in
     served_is code old mid c.tell_served.new.self ctx c.land.new.self (instr_view c.instr.result.now) b word turned
     (subst (λ (q : Point Spot Words). does_at q b.at.node) b.top (subst (λ (s : Step). does_at (top_of ctx) s) same (c.in-Went.ensures.does code takes)))

@@ -3,7 +3,7 @@ use Rattle.std.specs.Global.{Vec}
 use Rattle.struct_ir.specs.declared.code.Node.{Node as CodeNode}
 use Rattle.struct_ir.specs.Views.{node_view, nodes_view}
 use Rattle.struct_ir.proofs.Views.{if_is, loop_is}
-use Rattle.pin_flow.specs.Marks.{State, Ways, ways, unreached, state_of, in_turn, end_state, flow, flow_node, round_of, head_of}
+use Rattle.pin_flow.specs.Marks.{AllPaths, Ways, ways, unreached, state_of, in_turn, end_state, flow, flow_node, round_of, head_of}
 use Rattle.pin_flow.specs.Marks as flows
 use Rattle.pin_flow.specs.Views.{mark_view, leaf}
 use Rattle.pin_flow.proofs.Order.{flow_idle}

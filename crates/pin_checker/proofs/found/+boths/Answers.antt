@@ -1,6 +1,6 @@
 use Rattle.std.proofs.Common.{refl, ap, ◌∙◌, inl, inr}
 use Rattle.struct_ir.specs.Views.{node_view, nodes_view}
-use Rattle.pin_flow.specs.Marks.{State, good, bad}
+use Rattle.pin_flow.specs.Marks.{AllPaths, good, bad}
 use Rattle.pin_checker.specs.inner.SearchViews.{search_view}
 use Rattle.pin_checker.specs.inner.Found.{both_of, found_in, from, found_view, both_view}
 use Rattle.pin_checker.proofs.FoundRows.{idle_search, from_node, followed, row_on, row_over, row_start, branches_found, rounds_found, leaf_of}
@@ -21,7 +21,7 @@ both_in-loop-n-preserved t c =
     let x = c.n-item.result in
     let g = found_view c.loop-n.both.good in
     let b = found_view c.loop-n.both.bad in
-    let next = λ (t : State). ap (λ z. from z t) c.both_at-next.ensures ∙ from_node s (idle_search c.args.search) (node_view x) t in
+    let next = λ (t : AllPaths). ap (λ z. from z t) c.both_at-next.ensures ∙ from_node s (idle_search c.args.search) (node_view x) t in
     record {
       good = row_on s c.args.rows.now c.loop-n.n-index x g (found_view c.behind.result) _ (found_view c.from.result) c.loop-n-test.true c.n-item.is c.loop-n.invariant.good (c.from.ensures ∙ next g.ways.on) c.behind.ensures;
       bad = row_on s c.args.rows.now c.loop-n.n-index x b (found_view c.behind-in-loop-n.result) _ (found_view c.from-in-loop-n.result) c.loop-n-test.true c.n-item.is c.loop-n.invariant.bad (c.from-in-loop-n.ensures ∙ next b.ways.on) c.behind-in-loop-n.ensures;
