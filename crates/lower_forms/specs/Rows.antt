@@ -175,7 +175,8 @@ main = func (tree.integer int) (kept (tree.pointer (tree.integer int)) ∷ kept 
     ∷ tree.at_stmt 30 (tree.while_ (tree.at 36 (tree.integer int) (tree.num int (pos 1)))
     (tree.at_stmt 38 (tree.block (stmts (tree.at_stmt 43 (tree.declare 3 None) ∷ tree.at_stmt 48 tree.break_ ∷ []))))) ∷ [])
 
--- its code: an element is reached by the register of the pointer and an index; the array ends at the break, and where its block does
+-- its code: an element is reached by the register of the pointer and an index; the array ends where its block does, and behind the loop,
+-- for the break
 abbrev pub main_code : ir.Func
 main_code = record {
   params = 0;
@@ -187,7 +188,7 @@ main_code = record {
       ∷ sets 21 4 (ir.copy 2) ∷ sets 10 5 (ir.copy 0) ∷ sets 12 6 (ir.copy 1) ∷ sets 24 5 (ir.pointer_add 5 6 4) ∷ acts 24 (ir.load (accesses.Number int)) (element 0 6 4 ∷ []) (Some 5) []
       ∷ sets 22 4 (ir.apply Add int 4 5) ∷ sets 20 2 (ir.copy 4)
       ∷ ir.loop 30 (row (sets 36 4 (ir.constant int (pos 1)) ∷ ir.if_ 36 4 ir.no_nodes (row (ir.break_ 36 ∷ []))
-      ∷ ir.plain 43 (ir.begin_object 0) ∷ ir.plain 48 (ir.end_object 0) ∷ ir.break_ 48 ∷ ir.plain 38 (ir.end_object 0) ∷ [])) ir.no_nodes
+      ∷ ir.plain 43 (ir.begin_object 0) ∷ ir.break_ 48 ∷ ir.plain 38 (ir.end_object 0) ∷ [])) ir.no_nodes ∷ ir.plain 30 (ir.end_object 0)
       ∷ sets 0 0 (ir.constant int (pos 0)) ∷ ir.ret 0 (Some 0) ∷ []);
 }
 
