@@ -129,12 +129,7 @@ fn held(alloc: Global, s: &Stmt, f: &Frame, out: &mut Vec<u32>) -> Result<(), No
 }
 
 #[cycle(holds)]
-fn held_by(
-    alloc: Global,
-    node: &StmtNode,
-    f: &Frame,
-    out: &mut Vec<u32>,
-) -> Result<(), NoMemory>
+fn held_by(alloc: Global, node: &StmtNode, f: &Frame, out: &mut Vec<u32>) -> Result<(), NoMemory>
     ensures { OnOk result (out.new.items ≡ out.old.items ++ held_by (frame_view f.now) (stmt_node_view node.now)) }
 {
     match node {
@@ -149,12 +144,7 @@ fn held_by(
 
 // Those of a block.
 #[cycle(holds)]
-fn held_block(
-    alloc: Global,
-    body: &[Stmt],
-    f: &Frame,
-    out: &mut Vec<u32>,
-) -> Result<(), NoMemory>
+fn held_block(alloc: Global, body: &[Stmt], f: &Frame, out: &mut Vec<u32>) -> Result<(), NoMemory>
     ensures { OnOk result (out.new.items ≡ out.old.items ++ (held_in (frame_view f.now) (stmts_of (map stmt_view body.now)) ++ objects_in (frame_view f.now) (stmts_of (map stmt_view body.now)))) }
 {
     held_in(alloc, body, f, out)?;
@@ -178,12 +168,7 @@ fn held_both(
 }
 
 // That of the first clause of a for.
-fn held_first(
-    alloc: Global,
-    first: &Stmt,
-    f: &Frame,
-    out: &mut Vec<u32>,
-) -> Result<(), NoMemory>
+fn held_first(alloc: Global, first: &Stmt, f: &Frame, out: &mut Vec<u32>) -> Result<(), NoMemory>
     ensures { OnOk result (out.new.items ≡ out.old.items ++ objects_by (frame_view f.now) (stmt_view first.now) []) }
 {
     out.extend_from_slice(&object_by(alloc, f, first)?)?;
@@ -192,12 +177,7 @@ fn held_first(
 
 // Those of a row.
 #[cycle(holds)]
-fn held_in(
-    alloc: Global,
-    all: &[Stmt],
-    f: &Frame,
-    out: &mut Vec<u32>,
-) -> Result<(), NoMemory>
+fn held_in(alloc: Global, all: &[Stmt], f: &Frame, out: &mut Vec<u32>) -> Result<(), NoMemory>
     ensures { OnOk result (out.new.items ≡ out.old.items ++ held_in (frame_view f.now) (stmts_of (map stmt_view all.now))) }
 {
     for s in all {

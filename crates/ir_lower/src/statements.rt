@@ -331,12 +331,16 @@ fn turns(
 }
 
 // The beginning of a loop's step.
-fn latch(alloc: Global, body: &Stmt, at: u32, f: &Frame) -> Result<Vec<Node>, NoMemory>
-    ensures { IfOk result (λ row. (rest : Nodes) → followed row.items rest ≡ ends at (over_next (frame_view f.now) (stmt_view body.now)) rest) }
+fn latch(
+    alloc: Global,
+    body: &Stmt,
+    at: u32,
+    f: &Frame,
+    out: &mut Vec<Node>,
+) -> Result<(), NoMemory>
+    ensures { OnOk result ((rest : Nodes) → followed out.new.items rest ≡ followed out.old.items (ends at (over_next (frame_view f.now) (stmt_view body.now)) rest)) }
 {
-    let mut row = Vec::new(alloc);
-    ends(&mut row, at, &over_next(alloc, f, body)?)?;
-    Ok(row)
+    ends(out, at, &over_next(alloc, f, body)?)
 }
 
 // The step of a while, which does nothing else.
@@ -344,21 +348,18 @@ fn latch(alloc: Global, body: &Stmt, at: u32, f: &Frame) -> Result<Vec<Node>, No
 fn while_step(alloc: Global, body: &Stmt, at: u32, f: &Frame) -> Result<Vec<Node>, NoMemory>
     ensures { IfOk result (λ row. nodes_view row.items ≡ ends at (over_next (frame_view f.now) (stmt_view body.now)) no_nodes) }
 {
-    latch(alloc, body, at, f)
+    let mut row = Vec::new(alloc);
+    latch(alloc, body, at, f, &mut row)?;
+    Ok(row)
 }
 
 // The step of a do: its condition.
 #[tactic(auto, using(struct_ir::proofs::Views::followed_none))]
-fn do_step(
-    alloc: Global,
-    body: &Stmt,
-    at: u32,
-    e: &Expr,
-    f: &Frame,
-) -> Result<Vec<Node>, NoMemory>
+fn do_step(alloc: Global, body: &Stmt, at: u32, e: &Expr, f: &Frame) -> Result<Vec<Node>, NoMemory>
     ensures { IfOk result (λ row. nodes_view row.items ≡ ends at (over_next (frame_view f.now) (stmt_view body.now)) (test_nodes (frame_view f.now) (Some (expr_view e.now)) no_nodes)) }
 {
-    let mut row = latch(alloc, body, at, f)?;
+    let mut row = Vec::with_capacity(alloc, 1)?;
+    latch(alloc, body, at, f, &mut row)?;
     tests(alloc, f, e, &mut row)?;
     Ok(row)
 }
@@ -545,7 +546,8 @@ fn for_step(
 ) -> Result<Vec<Node>, NoMemory>
     ensures { IfOk result (λ row. nodes_view row.items ≡ ends at (over_next (frame_view f.now) (stmt_view body.now)) (stmt_nodes (frame_view f.now) (stmt_view step.now) [] no_nodes)) }
 {
-    let mut row = latch(alloc, body, at, f)?;
+    let mut row = Vec::with_capacity(alloc, 1)?;
+    latch(alloc, body, at, f, &mut row)?;
     stmt(alloc, step, f, &[], &mut row)?;
     Ok(row)
 }
