@@ -546,10 +546,10 @@ fn for_step(
 ) -> Result<Vec<Node>, NoMemory>
     ensures { IfOk result (λ row. nodes_view row.items ≡ ends at (over_next (frame_view f.now) (stmt_view body.now)) (stmt_nodes (frame_view f.now) (stmt_view step.now) [] no_nodes)) }
 {
-    let mut row = Vec::with_capacity(alloc, 1)?;
-    latch(alloc, body, at, f, &mut row)?;
-    stmt(alloc, step, f, &[], &mut row)?;
-    Ok(row)
+    let mut last = Vec::with_capacity(alloc, 1)?;
+    latch(alloc, body, at, f, &mut last)?;
+    stmt(alloc, step, f, &[], &mut last)?;
+    Ok(last)
 }
 
 #[cycle(stmts)]
