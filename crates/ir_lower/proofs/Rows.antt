@@ -13,8 +13,8 @@ use Rattle.struct_ir.specs.declared.code.Node.{Node}
 use Rattle.struct_ir.specs.Nodes.{Nodes, no_nodes, more_nodes, break_, ret, StackObject}
 use Rattle.struct_ir.specs.Views.{nodes_view, followed}
 use Rattle.struct_ir.proofs.Views.{followed_none}
-use Rattle.lower_forms.specs.Forms.{Frame, first_temp, branches, sets_int, expr_nodes, ends, objects_in, test_nodes, choose_nodes, switched, form_nodes, row_nodes, switch_nodes}
-use Rattle.lower_forms.specs.Programs.{objects_of, frame_of, registers_of, last_nodes, func_lowered}
+use Rattle.lower_forms.specs.Forms.{Frame, opened, again, first_temp, branches, sets_int, expr_nodes, ends, objects_in, test_nodes, choose_nodes, switched, form_nodes, row_nodes, switch_nodes}
+use Rattle.lower_forms.specs.Programs.{objects_of, frame_of, body_frame, registers_of, last_nodes, func_lowered}
 use Rattle.c_tree.proofs.ListedViews.{block_view, switch_view}
 use Rattle.c_tree.specs.Typed.{stmts_of}
 
@@ -24,11 +24,15 @@ switch_form F place e labels body left r =
     expr_nodes F e (suc (suc (first_temp F))) (sets_int place (first_temp F) (default_from 0 labels) (choose_nodes place (first_temp F) 0 labels
     (sets_int place (suc (first_temp F)) 0 (switch_nodes (switched F) place (first_temp F) labels 0 body left r))))
 
+-- a block
+abbrev pub block_form : Frame → ℕ → tree.Stmts → List ℕ → Nodes → Nodes
+block_form F place body left r = row_nodes (opened F (objects_in F body)) body (again F.outer (objects_in F body) ++ left) (ends place (objects_in F body) r)
+
 pub block_done : (F : Frame) (place : ℕ) (node : StmtNode) (v : Vec Stmt) (left : List ℕ) (o0 o1 : List Node) (d : List Stmt) → node ≡ stmt_views.Block v → d ≡ v.items
-    → ((r : Nodes) → followed o1 r ≡ followed o0 (row_nodes F (stmts_of (map stmt_view d)) (objects_in F (stmts_of (map stmt_view d)) ++ left) (ends place (objects_in F (stmts_of (map stmt_view d))) r)))
+    → ((r : Nodes) → followed o1 r ≡ followed o0 (block_form F place (stmts_of (map stmt_view d)) left r))
     → (r : Nodes) → followed o1 r ≡ followed o0 (form_nodes F place (stmt_node_view node) left r)
 block_done F place node v left o0 o1 d is e h r =
-    h r ∙ ap (λ l. followed o0 (row_nodes F (stmts_of (map stmt_view l)) (objects_in F (stmts_of (map stmt_view l)) ++ left) (ends place (objects_in F (stmts_of (map stmt_view l))) r))) e
+    h r ∙ ap (λ l. followed o0 (block_form F place (stmts_of (map stmt_view l)) left r)) e
     ∙ ap (λ n. followed o0 (form_nodes F place n left r)) (sym (ap stmt_node_view is ∙ block_view v))
 
 pub switch_done : (F : Frame) (place : ℕ) (node : StmtNode) (e : Expr) (labels : Vec Label) (v : Vec Stmt) (left : List ℕ) (o0 o1 : List Node) (dl : List Label) (d : List Stmt) → node ≡ stmt_views.Switch e labels v → dl ≡ labels.items → d ≡ v.items
@@ -75,9 +79,9 @@ params_fit params long g temps h e = omega (arith, h, e)
 
 pub func_done : (structs : List tree.Layout) (b : Bool) (f : tree.Func) (F : Frame) (temps : ℕ) (os : List StackObject) (n0 n1 n2 : List Node)
     → F ≡ frame_of structs f → temps ≡ registers_of f → os ≡ objects_of structs f.locals → n0 ≡ []
-    → ((r : Nodes) → followed n1 r ≡ followed n0 (row_nodes F f.body [] r)) → nodes_view n2 ≡ followed n1 (last_nodes b temps)
+    → ((r : Nodes) → followed n1 r ≡ followed n0 (row_nodes (opened F (objects_in F f.body)) f.body [] r)) → nodes_view n2 ≡ followed n1 (last_nodes b temps)
     → record { params = f.params; temps = temps; slots = 0; objects = os; nodes = nodes_view n2 } ≡ func_lowered structs b f
 func_done structs b f F temps os n0 n1 n2 eF et eo e0 h1 h2 =
-    let row : nodes_view n2 ≡ row_nodes (frame_of structs f) f.body [] (last_nodes b (registers_of f))
-    = h2 ∙ h1 (last_nodes b temps) ∙ (λ i. followed (e0 i) (row_nodes (eF i) f.body [] (last_nodes b (et i)))) in
+    let row : nodes_view n2 ≡ row_nodes (body_frame structs f) f.body [] (last_nodes b (registers_of f))
+    = h2 ∙ h1 (last_nodes b temps) ∙ (λ i. followed (e0 i) (row_nodes (opened (eF i) (objects_in (eF i) f.body)) f.body [] (last_nodes b (et i)))) in
     λ i. record { params = f.params; temps = et i; slots = 0; objects = eo i; nodes = row i }

@@ -23,6 +23,9 @@ decreases-stmt l = goal.size-stmt l * 8
 abbrev pub decreases-row_of : goal.decreases-row_of
 decreases-row_of l = goal.size-row_of l * 8 + 1
 
+abbrev pub decreases-for_step : goal.decreases-for_step
+decreases-for_step l = the_size l.step.now * 8 + 1
+
 abbrev pub decreases-while_round : goal.decreases-while_round
 decreases-while_round l = goal.size-while_round l * 8 + 1
 
