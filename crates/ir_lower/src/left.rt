@@ -234,7 +234,7 @@ fn fresh_in(alloc: Global, f: &Frame, body: &Stmt) -> Result<Vec<u32>, NoMemory>
 {
     let mut all = Vec::new(alloc);
     held(alloc, body, f, &mut all)?;
-    fresh(alloc, &f.outer, &all)
+    fresh(alloc, f.outer, &all)
 }
 
 /// What ends behind the loop of this body, where a break may have left it.

@@ -18,7 +18,7 @@ ghost use Rattle.lower_expressions.specs.FrameViews.{frame_view};
 
 use crate::counts::{greatest_row, sum, switches_in};
 use crate::left::objects_in;
-use crate::statements::{opened, row};
+use crate::statements::{joined, opened, row};
 use ak_words::NoMemory;
 use c_meaning::types::size_in;
 use c_tree::typed::{Func, GlobalVar, Layout, Local, Stmt, Typed};
@@ -106,7 +106,7 @@ fn lower_func(
     ensures { IfOk result (λ x. func_view x ≡ func_lowered (map layout_view structs.now) is_main (tree_func_view f.now)) }
 {
     let homes = homes(alloc, &f.locals)?;
-    let frame = frame(alloc, structs, &homes, &f.locals)?;
+    let frame = frame(structs, &homes, &f.locals)?;
     let temps = registers(&f.locals, &f.body)?;
     let mut nodes = Vec::new(alloc);
     body(alloc, &f.body, &frame, &mut nodes)?;
@@ -125,7 +125,8 @@ fn body(alloc: Global, all: &[Stmt], f: &Frame, out: &mut Vec<Node>) -> Result<(
     ensures { OnOk result ((rest : Nodes) → followed out.new.items rest ≡ followed out.old.items (row_nodes (opened (frame_view f.now) (objects_in (frame_view f.now) (stmts_of (map stmt_view all.now)))) (stmts_of (map stmt_view all.now)) [] rest)) }
 {
     let own = objects_in(alloc, f, all)?;
-    row(alloc, all, &opened(alloc, f, &own)?, &[], out)
+    let around = joined(alloc, &own, f.around)?;
+    row(alloc, all, &opened(f, &around), &[], out)
 }
 
 // Main that reaches its end gives 0.
@@ -151,11 +152,10 @@ fn small(n: usize) -> Result<u32, NoMemory>
 
 // What stays the same in a function of these locals, which have these homes.
 fn frame<'a>(
-    alloc: Global,
     structs: &'a [Layout],
     homes: &'a [Option<u32>],
     locals: &[Local],
-) -> Result<Frame<'a>, NoMemory>
+) -> Result<Frame<'a, 'static, 'static>, NoMemory>
     requires { homes.now ≡ homes_from 0 (map local_view locals.now) }
     ensures { IfOk result (λ f. frame_view f ≡ record { structs = map layout_view structs.now; homes = homes_from 0 (map local_view locals.now); first = length (map local_view locals.now); flag = None; around = []; outer = [] }) }
 {
@@ -164,8 +164,8 @@ fn frame<'a>(
         homes,
         first_temp: small(locals.len())?,
         flag: None,
-        around: Vec::new(alloc),
-        outer: Vec::new(alloc),
+        around: &[],
+        outer: &[],
     })
 }
 

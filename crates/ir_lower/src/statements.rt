@@ -5,7 +5,7 @@ ghost use Rattle.c_tree.specs.TypedViews.{expr_view, optional_expr_view, stmt_vi
 ghost use Rattle.struct_ir.specs.Nodes.{Nodes, no_nodes, more_nodes, loop};
 ghost use Rattle.struct_ir.specs.Views.{place_view, nodes_view, followed};
 ghost use Rattle.lower_forms.specs.Forms.{opened, again, over_break, over_next, loop_nodes, branches, expr_nodes, ends, objects_by, objects_in, store_nodes, copy_nodes, object_assign, assign_nodes, update_register, update_at, update_by, update_object, update_nodes, test_nodes, declare_nodes, return_nodes, stmt_nodes, row_nodes, looped, switched, sets_int, choose_nodes, switch_nodes, stmt_place, guarded, break_nodes};
-ghost use Rattle.c_tree.specs.TypedViews.{label_view};
+ghost use Rattle.c_tree.specs.TypedViews.{label_view, layout_view};
 ghost use Rattle.c_meaning.specs.Switches.{default_from};
 ghost use Rattle.lower_expressions.specs.FrameViews.{frame_view};
 ghost use Rattle.c_tree.specs.Typed.{stmts_of};
@@ -283,35 +283,31 @@ pub fn joined(alloc: Global, own: &[u32], left: &[u32]) -> Result<Vec<u32>, NoMe
 }
 
 // What stays the same in a loop.
-fn in_loop<'a>(alloc: Global, f: &Frame<'a>) -> Result<Frame<'a>, NoMemory>
-    ensures { IfOk result (λ g. frame_view g ≡ looped (frame_view f.now)) }
+fn in_loop<'a, 'b>(f: &Frame<'a, 'b, '_>) -> Frame<'a, 'b, 'b>
+    ensures { frame_view result ≡ looped (frame_view f.now) }
 {
-    Ok(Frame {
+    Frame {
         structs: f.structs,
         homes: f.homes,
         first_temp: f.first_temp,
         flag: None,
-        around: f.around.to_vec(alloc)?,
-        outer: f.around.to_vec(alloc)?,
-    })
+        around: f.around,
+        outer: f.around,
+    }
 }
 
-/// What stays the same in a block that has these objects.
-///
-/// # Errors
-///
-/// Only want of memory.
-pub fn opened<'a>(alloc: Global, f: &Frame<'a>, own: &[u32]) -> Result<Frame<'a>, NoMemory>
-    ensures { IfOk result (λ g. frame_view g ≡ opened (frame_view f.now) own.now) }
+/// What stays the same in a block, where these objects are those of the blocks around.
+pub fn opened<'a, 'b, 'c>(f: &Frame<'a, '_, 'c>, around: &'b [u32]) -> Frame<'a, 'b, 'c>
+    ensures { frame_view result ≡ record { structs = map layout_view f.now.structs.now; homes = f.now.homes.now; first = f.now.first_temp; flag = f.now.flag; around = around.now; outer = f.now.outer.now } }
 {
-    Ok(Frame {
+    Frame {
         structs: f.structs,
         homes: f.homes,
         first_temp: f.first_temp,
         flag: f.flag,
-        around: joined(alloc, own, &f.around)?,
-        outer: f.outer.to_vec(alloc)?,
-    })
+        around,
+        outer: f.outer,
+    }
 }
 
 // Out of a loop and back: its rounds, and what ends before its step and behind it.
@@ -395,8 +391,8 @@ fn stmt(
         StmtNode::Declare(n, init) => declares(alloc, f, s.place, *n, init, out),
         StmtNode::If(e, one, None) => if_alone(alloc, one, e, f, left, out),
         StmtNode::If(e, one, Some(other)) => if_else(alloc, one, other, e, f, left, out),
-        StmtNode::While(e, body) => while_loop(alloc, body, s.place, e, &in_loop(alloc, f)?, out),
-        StmtNode::DoWhile(body, e) => do_loop(alloc, body, s.place, e, &in_loop(alloc, f)?, out),
+        StmtNode::While(e, body) => while_loop(alloc, body, s.place, e, &in_loop(f), out),
+        StmtNode::DoWhile(body, e) => do_loop(alloc, body, s.place, e, &in_loop(f), out),
         StmtNode::Switch(e, labels, body) => {
             switch(alloc, body, s.place, e, labels, f, left, out)
         }
@@ -435,11 +431,30 @@ fn block(
     ensures { OnOk result ((rest : Nodes) → followed out.new.items rest ≡ followed out.old.items (row_nodes (opened (frame_view f.now) (objects_in (frame_view f.now) (stmts_of (map stmt_view body.now)))) (stmts_of (map stmt_view body.now)) (again (frame_view f.now).outer (objects_in (frame_view f.now) (stmts_of (map stmt_view body.now))) ++ left.now) (ends at (objects_in (frame_view f.now) (stmts_of (map stmt_view body.now))) rest))) }
 {
     let own = objects_in(alloc, f, body)?;
-    let inner = opened(alloc, f, &own)?;
-    let twice = again(alloc, &f.outer, &own)?;
+    if own.is_empty() {
+        return row(alloc, body, f, left, out);
+    }
+    block_with(alloc, body, at, f, &own, left, out)
+}
+
+// One that declares locals with these objects.
+#[cycle(stmts)]
+fn block_with(
+    alloc: Global,
+    body: &[Stmt],
+    at: u32,
+    f: &Frame,
+    own: &[u32],
+    left: &[u32],
+    out: &mut Vec<Node>,
+) -> Result<(), NoMemory>
+    ensures { OnOk result ((rest : Nodes) → followed out.new.items rest ≡ followed out.old.items (row_nodes (opened (frame_view f.now) own.now) (stmts_of (map stmt_view body.now)) (again (frame_view f.now).outer own.now ++ left.now) (ends at own.now rest))) }
+{
+    let around = joined(alloc, own, f.around)?;
+    let twice = again(alloc, f.outer, own)?;
     let ended = joined(alloc, &twice, left)?;
-    row(alloc, body, &inner, &ended, out)?;
-    ends(out, at, &own)
+    row(alloc, body, &opened(f, &around), &ended, out)?;
+    ends(out, at, own)
 }
 
 // An if without an else.
@@ -510,10 +525,31 @@ fn for_loop(
     ensures { OnOk result ((rest : Nodes) → followed out.new.items rest ≡ followed out.old.items (stmt_nodes (opened (frame_view f.now) (objects_by (frame_view f.now) (stmt_view first.now) [])) (stmt_view first.now) left.now (loop_nodes (looped (opened (frame_view f.now) (objects_by (frame_view f.now) (stmt_view first.now) []))) at (stmt_view body.now) (test_nodes (looped (opened (frame_view f.now) (objects_by (frame_view f.now) (stmt_view first.now) []))) (optional_expr_view e.now) (stmt_nodes (looped (opened (frame_view f.now) (objects_by (frame_view f.now) (stmt_view first.now) []))) (stmt_view body.now) [] no_nodes)) (stmt_nodes (looped (opened (frame_view f.now) (objects_by (frame_view f.now) (stmt_view first.now) []))) (stmt_view step.now) [] no_nodes) (ends at (objects_by (frame_view f.now) (stmt_view first.now) []) rest)))) }
 {
     let own = object_by(alloc, f, first)?;
-    let inner = opened(alloc, f, &own)?;
-    stmt(alloc, first, &inner, left, out)?;
-    for_rounds(alloc, body, step, at, e, &in_loop(alloc, &inner)?, out)?;
+    if own.is_empty() {
+        return for_in(alloc, first, body, step, at, e, f, left, out);
+    }
+    let around = joined(alloc, &own, f.around)?;
+    for_in(alloc, first, body, step, at, e, &opened(f, &around), left, out)?;
     ends(out, at, &own)
+}
+
+// The same where that object has begun.
+#[cycle(stmts)]
+fn for_in(
+    alloc: Global,
+    first: &Stmt,
+    body: &Stmt,
+    step: &Stmt,
+    at: u32,
+    e: &Option<Expr>,
+    f: &Frame,
+    left: &[u32],
+    out: &mut Vec<Node>,
+) -> Result<(), NoMemory>
+    ensures { OnOk result ((rest : Nodes) → followed out.new.items rest ≡ followed out.old.items (stmt_nodes (frame_view f.now) (stmt_view first.now) left.now (loop_nodes (looped (frame_view f.now)) at (stmt_view body.now) (test_nodes (looped (frame_view f.now)) (optional_expr_view e.now) (stmt_nodes (looped (frame_view f.now)) (stmt_view body.now) [] no_nodes)) (stmt_nodes (looped (frame_view f.now)) (stmt_view step.now) [] no_nodes) rest))) }
+{
+    stmt(alloc, first, f, left, out)?;
+    for_rounds(alloc, body, step, at, e, &in_loop(f), out)
 }
 
 // The rounds of a for.
@@ -594,8 +630,8 @@ fn switch(
         homes: f.homes,
         first_temp,
         flag: Some(flag),
-        around: f.around.to_vec(alloc)?,
-        outer: f.outer.to_vec(alloc)?,
+        around: f.around,
+        outer: f.outer,
     };
     cases(alloc, body, at, chosen, flag, labels, &inner, left, out)
 }

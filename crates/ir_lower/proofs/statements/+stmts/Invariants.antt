@@ -38,7 +38,10 @@ abbrev pub decreases-row : goal.decreases-row
 decreases-row l = goal.size-row l * 8 + 3
 
 abbrev pub decreases-block : goal.decreases-block
-decreases-block l = goal.size-block l * 8 + 4
+decreases-block l = goal.size-block l * 8 + 5
+
+abbrev pub decreases-block_with : goal.decreases-block_with
+decreases-block_with l = goal.size-block_with l * 8 + 4
 
 abbrev pub decreases-if_alone : goal.decreases-if_alone
 decreases-if_alone l = goal.size-if_alone l * 8 + 2
@@ -53,7 +56,10 @@ abbrev pub decreases-while_loop : goal.decreases-while_loop
 decreases-while_loop l = goal.size-while_loop l * 8 + 2
 
 abbrev pub decreases-for_loop : goal.decreases-for_loop
-decreases-for_loop l = max (the_size l.first.now) (max (the_size l.body.now) (the_size l.step.now)) * 8 + 3
+decreases-for_loop l = max (the_size l.first.now) (max (the_size l.body.now) (the_size l.step.now)) * 8 + 4
+
+abbrev pub decreases-for_in : goal.decreases-for_in
+decreases-for_in l = max (the_size l.first.now) (max (the_size l.body.now) (the_size l.step.now)) * 8 + 3
 
 -- ---- a switch, and a statement under its flag
 
