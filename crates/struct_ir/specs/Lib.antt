@@ -30,3 +30,4 @@ pub mod Stands
 pub mod Emitted
 pub mod Safe
 pub mod meaning
+pub mod inner

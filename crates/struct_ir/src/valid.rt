@@ -8,6 +8,7 @@ ghost use Rattle.struct_ir.specs.Views.{place_view, calc_view, action_view, step
 ghost use Rattle.struct_ir.specs.WholeViews.{ir_view};
 ghost use Rattle.struct_ir.specs.Valid.{Scope, are_below, is_below_if, is_distinct, is_list, is_promoted, is_calc, is_place, has_params, counts_of, has_counts, has_width, is_piece, is_action, is_own_list, is_step, is_call, body_of, latch_of, outside, is_node, are_nodes, scope_of};
 ghost use Rattle.struct_ir.specs.Valid as valid;
+ghost use Rattle.struct_ir.specs.inner.Rising.{rises_from};
 ghost use Rattle.struct_ir.specs.ValidViews.{scope_view, counts_view, around_view};
 
 use crate::code::{Action, Calc, CallNode, IrFunc, Node, NodeKind, Place, StepNode};
@@ -142,8 +143,32 @@ fn is_among(x: u32, list: &[u32]) -> bool
     list.iter().any(|y| *y == x)
 }
 
+// Each number is above the one before it, and the first above this one.
+fn rises_from(low: u32, list: &[u32]) -> bool
+    ensures { result ≡ rises_from low list.now }
+{
+    let mut last = low;
+    for x in list {
+        if *x <= last {
+            return false;
+        }
+        last = *x;
+    }
+    true
+}
+
 // No number stands twice.
 fn is_distinct(list: &[u32]) -> bool
+    ensures { result ≡ is_distinct list.now }
+{
+    match list {
+        [] => true,
+        [first, rest @ ..] => rises_from(*first, rest) || is_each_once(list),
+    }
+}
+
+// The same, by a look for each number behind it.
+fn is_each_once(list: &[u32]) -> bool
     ensures { result ≡ is_distinct list.now }
 {
     for (i, x) in list.iter().enumerate() {

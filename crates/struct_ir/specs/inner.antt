@@ -1,0 +1,2 @@
+-- What only bodies use.
+pub mod Rising
