@@ -6,7 +6,7 @@ use Rattle.c_tree.specs.Typed as tree
 use Rattle.c_tree.specs.TypedForm.{IsWellFormed}
 use Rattle.struct_ir.specs.Nodes.{StackObject, Global, Func, Ir}
 use Rattle.struct_ir.specs.Erased.{func_erased, ir_erased}
-use Rattle.lower_forms.specs.Programs.{with_object, objects_of, frame_of, registers_of, last_nodes, funcs_lowered, globals_lowered, lowered}
+use Rattle.lower_forms.specs.Programs.{with_object, objects_of, body_frame, registers_of, last_nodes, funcs_lowered, globals_lowered, lowered}
 use Rattle.code_file.specs.Conditions.{is_alignment, func_is_aligned, ir_is_aligned}
 use Rattle.alaska_run.proofs.AlignedTypes.{IsAligned, AreTypesAligned, types_aligned}
 use Rattle.alaska_run.proofs.AlignedRows.{AreAligned, nodes_told, nodes_kept}
@@ -47,7 +47,7 @@ module _ (structs : List tree.Layout) (types : AreTypesAligned structs) where
   funcs_aligned : (main i : ℕ) (fs : List tree.Func) → AllByRecursion FuncIsAligned (funcs_lowered structs main i fs)
   funcs_aligned main i [] = tt
   funcs_aligned main i (f ∷ fs) = (
-    (objects_aligned f.locals, row_aligned (frame_of structs f) types f.body [] _ (last_aligned (i == main) (registers_of f))),
+    (objects_aligned f.locals, row_aligned (body_frame structs f) types f.body [] _ (last_aligned (i == main) (registers_of f))),
     funcs_aligned main (suc i) fs,
   )
 

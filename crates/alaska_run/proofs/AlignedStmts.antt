@@ -7,7 +7,7 @@ use Rattle.c_meaning.specs.Values.{is_scalar, is_atomic, operand_types, is_minus
 use Rattle.c_meaning.specs.Switches.{stands_at}
 use Rattle.c_meaning.specs.Turns.{is_struct}
 use Rattle.struct_ir.specs.Nodes.{Place, Nodes, no_nodes}
-use Rattle.lower_forms.specs.Forms.{Frame, looped, switched, home, first_temp, behind, reach, is_void, value_nodes, object_place, dropped_nodes, dropped_value, begins, ends, objects_by, objects_in, initialises, store_nodes, copy_nodes, own_register, assign_nodes, number_type, computes, change_nodes, update_nodes, choose_nodes, begin_if, label_nodes, stmt_place, guarded, break_nodes, test_nodes, stmt_nodes, form_nodes, row_nodes, switch_nodes}
+use Rattle.lower_forms.specs.Forms.{Frame, looped, switched, opened, again, over_break, over_next, loop_nodes, home, first_temp, behind, reach, is_void, value_nodes, object_place, dropped_nodes, dropped_value, begins, ends, objects_by, objects_in, initialises, store_nodes, copy_nodes, own_register, assign_nodes, number_type, computes, change_nodes, update_nodes, choose_nodes, begin_if, label_nodes, stmt_place, guarded, break_nodes, test_nodes, stmt_nodes, form_nodes, row_nodes, switch_nodes}
 use Rattle.alaska_run.proofs.AlignedTypes.{AreTypesAligned}
 use Rattle.alaska_run.proofs.AlignedRows.{AreAligned}
 use Rattle.alaska_run.proofs.AlignedExprs.{becomes_aligned, expr_aligned, value_aligned, place_aligned, object_aligned, args_aligned}
@@ -120,12 +120,16 @@ labels_aligned place r i number (label ∷ labels) rest g = begin_aligned (stand
 
 -- ---- statements
 
+loop_aligned : (f : Frame) (place : ℕ) (body : tree.Stmt) (round latch rest : Nodes) → AreAligned round → AreAligned latch → AreAligned rest → AreAligned (loop_nodes f place body round latch rest)
+loop_aligned f place body round latch rest h k g = ((h, ends_aligned place (over_next f body) latch k), ends_aligned place (over_break f body) rest g)
+
 mutual
   pub stmt_aligned : (f : Frame) → AreTypesAligned f.structs → (st : tree.Stmt) (left : List ℕ) (rest : Nodes) → AreAligned rest → AreAligned (stmt_nodes f st left rest)
   stmt_aligned f a (tree.at_stmt place node) left rest g = form_aligned f a place node left rest g
 
   form_aligned : (f : Frame) → AreTypesAligned f.structs → (place : ℕ) (node : tree.StmtNode) (left : List ℕ) (rest : Nodes) → AreAligned rest → AreAligned (form_nodes f place node left rest)
-  form_aligned f a place (tree.block body) left rest g = row_aligned f a body (objects_in f body ++ left) _ (ends_aligned place (objects_in f body) rest g)
+  form_aligned f a place (tree.block body) left rest g =
+      row_aligned (opened f (objects_in f body)) a body (again f.outer (objects_in f body) ++ left) _ (ends_aligned place (objects_in f body) rest g)
   form_aligned f a place (tree.declare n None) left rest g = begins_aligned place n (home f n) rest g
   form_aligned f a place (tree.declare n (Some e)) left rest g =
       begins_aligned place n (home f n) _ (expr_aligned f e (first_temp f) _ (initialises_aligned place (home f n) n (first_temp f) (tree.type_of e) rest g))
@@ -133,12 +137,11 @@ mutual
   form_aligned f a place (tree.if_else e one other) left rest g =
       expr_aligned f e (first_temp f) _ ((stmt_aligned f a one left no_nodes tt, stmt_aligned f a other left no_nodes tt), g)
   form_aligned f a place (tree.while_ e body) left rest g =
-      ((test_aligned (looped f) (Some e) _ (stmt_aligned (looped f) a body [] no_nodes tt), tt), g)
+      loop_aligned (looped f) place body _ no_nodes rest (test_aligned (looped f) (Some e) _ (stmt_aligned (looped f) a body [] no_nodes tt)) tt g
   form_aligned f a place (tree.for_ first e last body) left rest g =
-      stmt_aligned f a first left _
-      ((test_aligned (looped f) e _ (stmt_aligned (looped f) a body [] no_nodes tt), stmt_aligned (looped f) a last [] no_nodes tt), ends_aligned place (objects_by f first []) rest g)
+      for_aligned (opened f (objects_by f first [])) a place (objects_by f first []) first e last body left rest g
   form_aligned f a place (tree.do_while body e) left rest g =
-      ((stmt_aligned (looped f) a body [] no_nodes tt, test_aligned (looped f) (Some e) no_nodes tt), g)
+      loop_aligned (looped f) place body _ _ rest (stmt_aligned (looped f) a body [] no_nodes tt) (test_aligned (looped f) (Some e) no_nodes tt) g
   form_aligned f a place (tree.switch e labels body) left rest g =
       expr_aligned f e (suc (suc (first_temp f))) _ (
         tt,
@@ -153,6 +156,14 @@ mutual
   form_aligned f a place (tree.update d op e) left rest g = update_aligned f place op (own_register f (tree.node_of d)) d e (first_temp f) rest g
   form_aligned f a place (tree.evaluate e) left rest g = dropped_aligned f e (first_temp f) rest g
   form_aligned f a place tree.empty left rest g = g
+
+  for_aligned : (f : Frame) → AreTypesAligned f.structs → (place : ℕ) (objects : List ℕ) (first : tree.Stmt) (e : Option tree.Expr) (last body : tree.Stmt) (left : List ℕ) (rest : Nodes) → AreAligned rest
+      → AreAligned (stmt_nodes f first left
+      (loop_nodes (looped f) place body (test_nodes (looped f) e (stmt_nodes (looped f) body [] no_nodes)) (stmt_nodes (looped f) last [] no_nodes) (ends place objects rest)))
+  for_aligned f a place objects first e last body left rest g =
+      stmt_aligned f a first left _
+      (loop_aligned (looped f) place body _ _ _ (test_aligned (looped f) e _ (stmt_aligned (looped f) a body [] no_nodes tt)) (stmt_aligned (looped f) a last [] no_nodes tt)
+      (ends_aligned place objects rest g))
 
   pub row_aligned : (f : Frame) → AreTypesAligned f.structs → (body : tree.Stmts) (left : List ℕ) (rest : Nodes) → AreAligned rest → AreAligned (row_nodes f body left rest)
   row_aligned f a tree.no_stmts left rest g = g

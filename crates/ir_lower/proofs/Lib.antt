@@ -1,3 +1,4 @@
 pub mod CountedRows
 pub mod Rows
 pub mod Programs
+pub mod LeftRows

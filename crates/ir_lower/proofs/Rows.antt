@@ -1,6 +1,9 @@
 -- What a row becomes by a block and by a loop, and a function by its rows.
 use Rattle.std.proofs.Common.{◌≡◌, ℕ, zero, suc, ◌+◌, ◌<◌, ◌≤◌, Bool, true, false, arith, length, List, [], ◌∷◌, ◌++◌, map, Some, refl, ap, sym, ◌∙◌}
+use Rattle.std.specs.Prelude.{Option, ◌==◌}
 use Rattle.std.specs.Global.{Vec}
+use Rattle.std.proofs.lemmas.Bool.{eqb-true}
+use Rattle.std.proofs.lemmas.List.{nil_from_length}
 use Rattle.c_tree.specs.declared.typed.Expr.{Expr}
 use Rattle.c_tree.specs.declared.typed.Label.{Label}
 use Rattle.c_tree.specs.declared.typed.Stmt.{Stmt}
@@ -13,8 +16,8 @@ use Rattle.struct_ir.specs.declared.code.Node.{Node}
 use Rattle.struct_ir.specs.Nodes.{Nodes, no_nodes, more_nodes, break_, ret, StackObject}
 use Rattle.struct_ir.specs.Views.{nodes_view, followed}
 use Rattle.struct_ir.proofs.Views.{followed_none}
-use Rattle.lower_forms.specs.Forms.{Frame, first_temp, branches, sets_int, expr_nodes, ends, objects_in, test_nodes, choose_nodes, switched, form_nodes, row_nodes, switch_nodes}
-use Rattle.lower_forms.specs.Programs.{objects_of, frame_of, registers_of, last_nodes, func_lowered}
+use Rattle.lower_forms.specs.Forms.{Frame, opened, again, first_temp, branches, sets_int, expr_nodes, ends, looped, objects_by, objects_in, test_nodes, loop_nodes, choose_nodes, switched, stmt_nodes, form_nodes, row_nodes, switch_nodes}
+use Rattle.lower_forms.specs.Programs.{objects_of, frame_of, body_frame, registers_of, last_nodes, func_lowered}
 use Rattle.c_tree.proofs.ListedViews.{block_view, switch_view}
 use Rattle.c_tree.specs.Typed.{stmts_of}
 
@@ -24,12 +27,42 @@ switch_form F place e labels body left r =
     expr_nodes F e (suc (suc (first_temp F))) (sets_int place (first_temp F) (default_from 0 labels) (choose_nodes place (first_temp F) 0 labels
     (sets_int place (suc (first_temp F)) 0 (switch_nodes (switched F) place (first_temp F) labels 0 body left r))))
 
+-- a block
+abbrev pub block_form : Frame → ℕ → tree.Stmts → List ℕ → Nodes → Nodes
+block_form F place body left r = row_nodes (opened F (objects_in F body)) body (again F.outer (objects_in F body) ++ left) (ends place (objects_in F body) r)
+
 pub block_done : (F : Frame) (place : ℕ) (node : StmtNode) (v : Vec Stmt) (left : List ℕ) (o0 o1 : List Node) (d : List Stmt) → node ≡ stmt_views.Block v → d ≡ v.items
-    → ((r : Nodes) → followed o1 r ≡ followed o0 (row_nodes F (stmts_of (map stmt_view d)) (objects_in F (stmts_of (map stmt_view d)) ++ left) (ends place (objects_in F (stmts_of (map stmt_view d))) r)))
+    → ((r : Nodes) → followed o1 r ≡ followed o0 (block_form F place (stmts_of (map stmt_view d)) left r))
     → (r : Nodes) → followed o1 r ≡ followed o0 (form_nodes F place (stmt_node_view node) left r)
 block_done F place node v left o0 o1 d is e h r =
-    h r ∙ ap (λ l. followed o0 (row_nodes F (stmts_of (map stmt_view l)) (objects_in F (stmts_of (map stmt_view l)) ++ left) (ends place (objects_in F (stmts_of (map stmt_view l))) r))) e
+    h r ∙ ap (λ l. followed o0 (block_form F place (stmts_of (map stmt_view l)) left r)) e
     ∙ ap (λ n. followed o0 (form_nodes F place n left r)) (sym (ap stmt_node_view is ∙ block_view v))
+
+-- ---- where no local has a stack object
+
+pub none_of : (objects : List ℕ) (n : ℕ) (b : Bool) → n ≡ length objects → b ≡ (n == 0) → b ≡ true → objects ≡ []
+none_of objects n b long is yes = nil_from_length objects (sym long ∙ eqb-true n 0 (sym is ∙ yes))
+
+-- a block's row stands as it would outside of it
+pub block_bare : (F : Frame) (place : ℕ) (body : tree.Stmts) (left objects : List ℕ) (o0 o1 : List Node) → objects ≡ objects_in F body → objects ≡ []
+    → ((r : Nodes) → followed o1 r ≡ followed o0 (row_nodes F body left r))
+    → (r : Nodes) → followed o1 r ≡ followed o0 (block_form F place body left r)
+block_bare F place body left objects o0 o1 e none h r =
+    h r ∙ ap (λ os. followed o0 (row_nodes (opened F os) body (again F.outer os ++ left) (ends place os r))) (sym none ∙ e)
+
+-- a for, whose first clause has begun its object
+abbrev pub for_form : Frame → ℕ → (first body step : tree.Stmt) → Option tree.Expr → List ℕ → Nodes → Nodes
+for_form F place first body step e left r =
+    stmt_nodes F first left (loop_nodes (looped F) place body (test_nodes (looped F) e (stmt_nodes (looped F) body [] no_nodes)) (stmt_nodes (looped F) step [] no_nodes) r)
+
+-- so does a for
+pub for_bare : (F : Frame) (place : ℕ) (first body step : tree.Stmt) (e : Option tree.Expr) (left objects : List ℕ) (o0 o1 : List Node) → objects ≡ objects_by F first [] → objects ≡ []
+    → ((r : Nodes) → followed o1 r ≡ followed o0 (for_form F place first body step e left r))
+    → (r : Nodes) → followed o1 r ≡ followed o0 (for_form (opened F (objects_by F first [])) place first body step e left (ends place (objects_by F first []) r))
+for_bare F place first body step e left objects o0 o1 is none h r =
+    h r ∙ ap (λ os. followed o0 (for_form (opened F os) place first body step e left (ends place os r))) (sym none ∙ is)
+
+-- ---- switches
 
 pub switch_done : (F : Frame) (place : ℕ) (node : StmtNode) (e : Expr) (labels : Vec Label) (v : Vec Stmt) (left : List ℕ) (o0 o1 : List Node) (dl : List Label) (d : List Stmt) → node ≡ stmt_views.Switch e labels v → dl ≡ labels.items → d ≡ v.items
     → ((r : Nodes) → followed o1 r ≡ followed o0 (switch_form F place (expr_view e) (map label_view dl) (stmts_of (map stmt_view d)) left r))
@@ -75,9 +108,9 @@ params_fit params long g temps h e = omega (arith, h, e)
 
 pub func_done : (structs : List tree.Layout) (b : Bool) (f : tree.Func) (F : Frame) (temps : ℕ) (os : List StackObject) (n0 n1 n2 : List Node)
     → F ≡ frame_of structs f → temps ≡ registers_of f → os ≡ objects_of structs f.locals → n0 ≡ []
-    → ((r : Nodes) → followed n1 r ≡ followed n0 (row_nodes F f.body [] r)) → nodes_view n2 ≡ followed n1 (last_nodes b temps)
+    → ((r : Nodes) → followed n1 r ≡ followed n0 (row_nodes (opened F (objects_in F f.body)) f.body [] r)) → nodes_view n2 ≡ followed n1 (last_nodes b temps)
     → record { params = f.params; temps = temps; slots = 0; objects = os; nodes = nodes_view n2 } ≡ func_lowered structs b f
 func_done structs b f F temps os n0 n1 n2 eF et eo e0 h1 h2 =
-    let row : nodes_view n2 ≡ row_nodes (frame_of structs f) f.body [] (last_nodes b (registers_of f))
-    = h2 ∙ h1 (last_nodes b temps) ∙ (λ i. followed (e0 i) (row_nodes (eF i) f.body [] (last_nodes b (et i)))) in
+    let row : nodes_view n2 ≡ row_nodes (body_frame structs f) f.body [] (last_nodes b (registers_of f))
+    = h2 ∙ h1 (last_nodes b temps) ∙ (λ i. followed (e0 i) (row_nodes (opened (eF i) (objects_in (eF i) f.body)) f.body [] (last_nodes b (et i)))) in
     λ i. record { params = f.params; temps = et i; slots = 0; objects = eo i; nodes = row i }

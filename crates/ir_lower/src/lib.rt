@@ -5,6 +5,7 @@
 
 mod counts;
 mod labels;
+mod left;
 mod lowering;
 mod statements;
 

@@ -1,6 +1,6 @@
 //! Functions and programs.
 
-ghost use Rattle.std.specs.Prelude.{◌≡◌, ◌+◌, ◌*◌, IfOk, true, map, length, None};
+ghost use Rattle.std.specs.Prelude.{◌≡◌, ◌+◌, ◌*◌, IfOk, OnOk, true, map, length, [], None};
 ghost use Rattle.std.specs.List.{AllByRecursion};
 ghost use Rattle.c_tree.specs.TypedForm.{IsWellFormed};
 ghost use Rattle.c_tree.specs.Typed.{stmts_of};
@@ -10,12 +10,15 @@ ghost use Rattle.struct_ir.specs.Views.{object_view, func_view, global_view as i
 ghost use Rattle.struct_ir.specs.WholeViews.{ir_view};
 ghost use Rattle.struct_ir.specs.Erased.{ir_erased};
 ghost use Rattle.struct_ir.specs.Valid.{is_valid};
+ghost use Rattle.struct_ir.specs.Nodes.{Nodes};
+ghost use Rattle.lower_forms.specs.Forms.{opened, objects_in, row_nodes};
 ghost use Rattle.lower_forms.specs.Laws.{AllBounded};
 ghost use Rattle.lower_forms.specs.Programs.{HasParams, homes_from, object_of, objects_of, last_nodes, func_lowered, funcs_lowered, global_lowered, globals_lowered, lowered};
 ghost use Rattle.lower_expressions.specs.FrameViews.{frame_view};
 
 use crate::counts::{greatest_row, sum, switches_in};
-use crate::statements::row;
+use crate::left::objects_in;
+use crate::statements::{joined, opened, row};
 use ak_words::NoMemory;
 use c_meaning::types::size_in;
 use c_tree::typed::{Func, GlobalVar, Layout, Local, Stmt, Typed};
@@ -106,7 +109,7 @@ fn lower_func(
     let frame = frame(structs, &homes, &f.locals)?;
     let temps = registers(&f.locals, &f.body)?;
     let mut nodes = Vec::new(alloc);
-    row(alloc, &f.body, &frame, &[], &mut nodes)?;
+    body(alloc, &f.body, &frame, &mut nodes)?;
     last(&mut nodes, is_main, temps)?;
     Ok(IrFunc {
         params: f.params,
@@ -115,6 +118,15 @@ fn lower_func(
         objects: objects(alloc, structs, &f.locals)?,
         nodes,
     })
+}
+
+// The body of a function, which is the outermost block; its objects end with the call.
+fn body(alloc: Global, all: &[Stmt], f: &Frame, out: &mut Vec<Node>) -> Result<(), NoMemory>
+    ensures { OnOk result ((rest : Nodes) → followed out.new.items rest ≡ followed out.old.items (row_nodes (opened (frame_view f.now) (objects_in (frame_view f.now) (stmts_of (map stmt_view all.now)))) (stmts_of (map stmt_view all.now)) [] rest)) }
+{
+    let own = objects_in(alloc, f, all)?;
+    let around = joined(alloc, &own, f.around)?;
+    row(alloc, all, &opened(f, &around), &[], out)
 }
 
 // Main that reaches its end gives 0.
@@ -143,15 +155,17 @@ fn frame<'a>(
     structs: &'a [Layout],
     homes: &'a [Option<u32>],
     locals: &[Local],
-) -> Result<Frame<'a>, NoMemory>
+) -> Result<Frame<'a, 'static, 'static>, NoMemory>
     requires { homes.now ≡ homes_from 0 (map local_view locals.now) }
-    ensures { IfOk result (λ f. frame_view f ≡ record { structs = map layout_view structs.now; homes = homes_from 0 (map local_view locals.now); first = length (map local_view locals.now); flag = None }) }
+    ensures { IfOk result (λ f. frame_view f ≡ record { structs = map layout_view structs.now; homes = homes_from 0 (map local_view locals.now); first = length (map local_view locals.now); flag = None; around = []; outer = [] }) }
 {
     Ok(Frame {
         structs,
         homes,
         first_temp: small(locals.len())?,
         flag: None,
+        around: &[],
+        outer: &[],
     })
 }
 

@@ -1,16 +1,17 @@
 //! Statements.
 
-ghost use Rattle.std.specs.Prelude.{◌≡◌, ◌++◌, [], IfOk, OnOk, map, Some, suc};
+ghost use Rattle.std.specs.Prelude.{◌≡◌, ◌++◌, ℕ, List, [], IfOk, OnOk, map, Some, suc};
 ghost use Rattle.c_tree.specs.TypedViews.{expr_view, optional_expr_view, stmt_view};
 ghost use Rattle.struct_ir.specs.Nodes.{Nodes, no_nodes, more_nodes, loop};
 ghost use Rattle.struct_ir.specs.Views.{place_view, nodes_view, followed};
-ghost use Rattle.lower_forms.specs.Forms.{branches, expr_nodes, declared_home, ends, objects_by, objects_in, store_nodes, copy_nodes, object_assign, assign_nodes, update_register, update_at, update_by, update_object, update_nodes, test_nodes, declare_nodes, return_nodes, stmt_nodes, row_nodes, looped, switched, sets_int, choose_nodes, switch_nodes, stmt_place, guarded, break_nodes};
-ghost use Rattle.c_tree.specs.TypedViews.{label_view};
+ghost use Rattle.lower_forms.specs.Forms.{opened, again, over_break, over_next, loop_nodes, branches, expr_nodes, ends, objects_by, objects_in, store_nodes, copy_nodes, object_assign, assign_nodes, update_register, update_at, update_by, update_object, update_nodes, test_nodes, declare_nodes, return_nodes, stmt_nodes, row_nodes, looped, switched, sets_int, choose_nodes, switch_nodes, stmt_place, guarded, break_nodes};
+ghost use Rattle.c_tree.specs.TypedViews.{label_view, layout_view};
 ghost use Rattle.c_meaning.specs.Switches.{default_from};
 ghost use Rattle.lower_expressions.specs.FrameViews.{frame_view};
 ghost use Rattle.c_tree.specs.Typed.{stmts_of};
 
 use crate::labels::{chooses, default_number, marks, sets_number};
+use crate::left::{again, object_by, objects_in, over_break, over_next};
 use ak_words::{NoMemory, Op};
 use c_meaning::types::{is_atomic, is_minus, is_struct};
 use c_tree::typed::{Expr, Label, Stmt, StmtNode};
@@ -268,40 +269,12 @@ fn returns(
     }
 }
 
-// The stack object of the local that a statement declares, if it declares one that has one.
-fn declared_home(f: &Frame, s: &Stmt) -> Option<u32>
-    ensures { result ≡ declared_home (frame_view f.now) (stmt_view s.now) }
-{
-    match &s.node {
-        StmtNode::Declare(number, _) => f.home(*number),
-        _ => None,
-    }
-}
-
-// The stack objects of the locals that the statements of a block declare.
-fn objects_in(alloc: Global, f: &Frame, all: &[Stmt]) -> Result<Vec<u32>, NoMemory>
-    ensures { IfOk result (λ v. v.items ≡ objects_in (frame_view f.now) (stmts_of (map stmt_view all.now))) }
-{
-    let mut objects = Vec::new(alloc);
-    for s in all {
-        if let Some(object) = declared_home(f, s) {
-            objects.push(object)?;
-        }
-    }
-    Ok(objects)
-}
-
-// The stack object of the local that the first clause of a loop declares.
-fn ends_of(f: &Frame, s: &Stmt, at: u32, out: &mut Vec<Node>) -> Result<(), NoMemory>
-    ensures { OnOk result ((rest : Nodes) → followed out.new.items rest ≡ followed out.old.items (ends at (objects_by (frame_view f.now) (stmt_view s.now) []) rest)) }
-{
-    match declared_home(f, s) {
-        None => Ok(()),
-        Some(object) => put(out, at, NodeKind::End(object)),
-    }
-}
-
-fn joined(alloc: Global, own: &[u32], left: &[u32]) -> Result<Vec<u32>, NoMemory>
+/// Some objects, then others.
+///
+/// # Errors
+///
+/// Only want of memory.
+pub fn joined(alloc: Global, own: &[u32], left: &[u32]) -> Result<Vec<u32>, NoMemory>
     ensures { IfOk result (λ v. v.items ≡ own.now ++ left.now) }
 {
     let mut all = own.to_vec(alloc)?;
@@ -310,7 +283,7 @@ fn joined(alloc: Global, own: &[u32], left: &[u32]) -> Result<Vec<u32>, NoMemory
 }
 
 // What stays the same in a loop.
-fn in_loop<'a>(f: &Frame<'a>) -> Frame<'a>
+fn in_loop<'a, 'b>(f: &Frame<'a, 'b, '_>) -> Frame<'a, 'b, 'b>
     ensures { frame_view result ≡ looped (frame_view f.now) }
 {
     Frame {
@@ -318,7 +291,73 @@ fn in_loop<'a>(f: &Frame<'a>) -> Frame<'a>
         homes: f.homes,
         first_temp: f.first_temp,
         flag: None,
+        around: f.around,
+        outer: f.around,
     }
+}
+
+/// What stays the same in a block, where these objects are those of the blocks around.
+pub fn opened<'a, 'b, 'c>(f: &Frame<'a, '_, 'c>, around: &'b [u32]) -> Frame<'a, 'b, 'c>
+    ensures { frame_view result ≡ record { structs = map layout_view f.now.structs.now; homes = f.now.homes.now; first = f.now.first_temp; flag = f.now.flag; around = around.now; outer = f.now.outer.now } }
+{
+    Frame {
+        structs: f.structs,
+        homes: f.homes,
+        first_temp: f.first_temp,
+        flag: f.flag,
+        around,
+        outer: f.outer,
+    }
+}
+
+// Out of a loop and back: its rounds, and what ends before its step and behind it.
+fn turns(
+    alloc: Global,
+    body: &Stmt,
+    at: u32,
+    f: &Frame,
+    round: Vec<Node>,
+    step: Vec<Node>,
+    out: &mut Vec<Node>,
+) -> Result<(), NoMemory>
+    ensures { OnOk result ((rest : Nodes) → followed out.new.items rest ≡ followed out.old.items (more_nodes (loop at (nodes_view round.items) (nodes_view step.items)) (ends at (over_break (frame_view f.now) (stmt_view body.now)) rest))) }
+{
+    rounds(out, at, round, step)?;
+    ends(out, at, &over_break(alloc, f, body)?)
+}
+
+// The beginning of a loop's step.
+fn latch(
+    alloc: Global,
+    body: &Stmt,
+    at: u32,
+    f: &Frame,
+    out: &mut Vec<Node>,
+) -> Result<(), NoMemory>
+    ensures { OnOk result ((rest : Nodes) → followed out.new.items rest ≡ followed out.old.items (ends at (over_next (frame_view f.now) (stmt_view body.now)) rest)) }
+{
+    ends(out, at, &over_next(alloc, f, body)?)
+}
+
+// The step of a while, which does nothing else.
+#[tactic(auto, using(struct_ir::proofs::Views::followed_none))]
+fn while_step(alloc: Global, body: &Stmt, at: u32, f: &Frame) -> Result<Vec<Node>, NoMemory>
+    ensures { IfOk result (λ row. nodes_view row.items ≡ ends at (over_next (frame_view f.now) (stmt_view body.now)) no_nodes) }
+{
+    let mut row = Vec::new(alloc);
+    latch(alloc, body, at, f, &mut row)?;
+    Ok(row)
+}
+
+// The step of a do: its condition.
+#[tactic(auto, using(struct_ir::proofs::Views::followed_none))]
+fn do_step(alloc: Global, body: &Stmt, at: u32, e: &Expr, f: &Frame) -> Result<Vec<Node>, NoMemory>
+    ensures { IfOk result (λ row. nodes_view row.items ≡ ends at (over_next (frame_view f.now) (stmt_view body.now)) (test_nodes (frame_view f.now) (Some (expr_view e.now)) no_nodes)) }
+{
+    let mut row = Vec::with_capacity(alloc, 1)?;
+    latch(alloc, body, at, f, &mut row)?;
+    tests(alloc, f, e, &mut row)?;
+    Ok(row)
 }
 
 // A break: it clears the flag of the switch around, or leaves the loop around.
@@ -334,8 +373,9 @@ fn breaks(f: &Frame, at: u32, left: &[u32], out: &mut Vec<Node>) -> Result<(), N
     }
 }
 
-// A statement is executed; `left` are the stack objects that end where a continue, or a break that
-// leaves a loop, leaves what declares them.
+// A statement is executed; `left` are the stack objects that a continue, or a break that leaves a
+// loop, ends itself: those that are declared around the loop, too. All others that they leave end
+// before the loop's step and behind it.
 #[cycle(stmts)]
 fn stmt(
     alloc: Global,
@@ -388,12 +428,33 @@ fn block(
     left: &[u32],
     out: &mut Vec<Node>,
 ) -> Result<(), NoMemory>
-    ensures { OnOk result ((rest : Nodes) → followed out.new.items rest ≡ followed out.old.items (row_nodes (frame_view f.now) (stmts_of (map stmt_view body.now)) (objects_in (frame_view f.now) (stmts_of (map stmt_view body.now)) ++ left.now) (ends at (objects_in (frame_view f.now) (stmts_of (map stmt_view body.now))) rest))) }
+    ensures { OnOk result ((rest : Nodes) → followed out.new.items rest ≡ followed out.old.items (row_nodes (opened (frame_view f.now) (objects_in (frame_view f.now) (stmts_of (map stmt_view body.now)))) (stmts_of (map stmt_view body.now)) (again (frame_view f.now).outer (objects_in (frame_view f.now) (stmts_of (map stmt_view body.now))) ++ left.now) (ends at (objects_in (frame_view f.now) (stmts_of (map stmt_view body.now))) rest))) }
 {
     let own = objects_in(alloc, f, body)?;
-    let inner = joined(alloc, &own, left)?;
-    row(alloc, body, f, &inner, out)?;
-    ends(out, at, &own)
+    if own.is_empty() {
+        return row(alloc, body, f, left, out);
+    }
+    block_with(alloc, body, at, f, &own, left, out)
+}
+
+// One that declares locals with these objects.
+#[cycle(stmts)]
+fn block_with(
+    alloc: Global,
+    body: &[Stmt],
+    at: u32,
+    f: &Frame,
+    own: &[u32],
+    left: &[u32],
+    out: &mut Vec<Node>,
+) -> Result<(), NoMemory>
+    ensures { OnOk result ((rest : Nodes) → followed out.new.items rest ≡ followed out.old.items (row_nodes (opened (frame_view f.now) own.now) (stmts_of (map stmt_view body.now)) (again (frame_view f.now).outer own.now ++ left.now) (ends at own.now rest))) }
+{
+    let around = joined(alloc, own, f.around)?;
+    let twice = again(alloc, f.outer, own)?;
+    let ended = joined(alloc, &twice, left)?;
+    row(alloc, body, &opened(f, &around), &ended, out)?;
+    ends(out, at, own)
 }
 
 // An if without an else.
@@ -441,10 +502,11 @@ fn while_loop(
     f: &Frame,
     out: &mut Vec<Node>,
 ) -> Result<(), NoMemory>
-    ensures { OnOk result ((rest : Nodes) → followed out.new.items rest ≡ followed out.old.items (more_nodes (loop at (test_nodes (frame_view f.now) (Some (expr_view e.now)) (stmt_nodes (frame_view f.now) (stmt_view body.now) [] no_nodes)) no_nodes) rest)) }
+    ensures { OnOk result ((rest : Nodes) → followed out.new.items rest ≡ followed out.old.items (loop_nodes (frame_view f.now) at (stmt_view body.now) (test_nodes (frame_view f.now) (Some (expr_view e.now)) (stmt_nodes (frame_view f.now) (stmt_view body.now) [] no_nodes)) no_nodes rest)) }
 {
     let round = while_round(alloc, body, f, e)?;
-    rounds(out, at, round, Vec::new(alloc))
+    let step = while_step(alloc, body, at, f)?;
+    turns(alloc, body, at, f, round, step, out)
 }
 
 // A for: its first clause, its rounds, and the end of the object that the first clause declares.
@@ -460,11 +522,44 @@ fn for_loop(
     left: &[u32],
     out: &mut Vec<Node>,
 ) -> Result<(), NoMemory>
-    ensures { OnOk result ((rest : Nodes) → followed out.new.items rest ≡ followed out.old.items (stmt_nodes (frame_view f.now) (stmt_view first.now) left.now (more_nodes (loop at (test_nodes (looped (frame_view f.now)) (optional_expr_view e.now) (stmt_nodes (looped (frame_view f.now)) (stmt_view body.now) [] no_nodes)) (stmt_nodes (looped (frame_view f.now)) (stmt_view step.now) [] no_nodes)) (ends at (objects_by (frame_view f.now) (stmt_view first.now) []) rest)))) }
+    ensures { OnOk result ((rest : Nodes) → followed out.new.items rest ≡ followed out.old.items (stmt_nodes (opened (frame_view f.now) (objects_by (frame_view f.now) (stmt_view first.now) [])) (stmt_view first.now) left.now (loop_nodes (looped (opened (frame_view f.now) (objects_by (frame_view f.now) (stmt_view first.now) []))) at (stmt_view body.now) (test_nodes (looped (opened (frame_view f.now) (objects_by (frame_view f.now) (stmt_view first.now) []))) (optional_expr_view e.now) (stmt_nodes (looped (opened (frame_view f.now) (objects_by (frame_view f.now) (stmt_view first.now) []))) (stmt_view body.now) [] no_nodes)) (stmt_nodes (looped (opened (frame_view f.now) (objects_by (frame_view f.now) (stmt_view first.now) []))) (stmt_view step.now) [] no_nodes) (ends at (objects_by (frame_view f.now) (stmt_view first.now) []) rest)))) }
+{
+    let own = object_by(alloc, f, first)?;
+    if own.is_empty() {
+        return for_in(alloc, first, body, step, at, e, f, left, out);
+    }
+    let around = joined(alloc, &own, f.around)?;
+    for_in(
+        alloc,
+        first,
+        body,
+        step,
+        at,
+        e,
+        &opened(f, &around),
+        left,
+        out,
+    )?;
+    ends(out, at, &own)
+}
+
+// The same where that object has begun.
+#[cycle(stmts)]
+fn for_in(
+    alloc: Global,
+    first: &Stmt,
+    body: &Stmt,
+    step: &Stmt,
+    at: u32,
+    e: &Option<Expr>,
+    f: &Frame,
+    left: &[u32],
+    out: &mut Vec<Node>,
+) -> Result<(), NoMemory>
+    ensures { OnOk result ((rest : Nodes) → followed out.new.items rest ≡ followed out.old.items (stmt_nodes (frame_view f.now) (stmt_view first.now) left.now (loop_nodes (looped (frame_view f.now)) at (stmt_view body.now) (test_nodes (looped (frame_view f.now)) (optional_expr_view e.now) (stmt_nodes (looped (frame_view f.now)) (stmt_view body.now) [] no_nodes)) (stmt_nodes (looped (frame_view f.now)) (stmt_view step.now) [] no_nodes) rest))) }
 {
     stmt(alloc, first, f, left, out)?;
-    for_rounds(alloc, body, step, at, e, &in_loop(f), out)?;
-    ends_of(f, first, at, out)
+    for_rounds(alloc, body, step, at, e, &in_loop(f), out)
 }
 
 // The rounds of a for.
@@ -478,11 +573,29 @@ fn for_rounds(
     f: &Frame,
     out: &mut Vec<Node>,
 ) -> Result<(), NoMemory>
-    ensures { OnOk result ((rest : Nodes) → followed out.new.items rest ≡ followed out.old.items (more_nodes (loop at (test_nodes (frame_view f.now) (optional_expr_view e.now) (stmt_nodes (frame_view f.now) (stmt_view body.now) [] no_nodes)) (stmt_nodes (frame_view f.now) (stmt_view step.now) [] no_nodes)) rest)) }
+    ensures { OnOk result ((rest : Nodes) → followed out.new.items rest ≡ followed out.old.items (loop_nodes (frame_view f.now) at (stmt_view body.now) (test_nodes (frame_view f.now) (optional_expr_view e.now) (stmt_nodes (frame_view f.now) (stmt_view body.now) [] no_nodes)) (stmt_nodes (frame_view f.now) (stmt_view step.now) [] no_nodes) rest)) }
 {
     let round = for_round(alloc, body, f, e)?;
-    let last = row_of(alloc, step, f, &[])?;
-    rounds(out, at, round, last)
+    let last = for_step(alloc, body, step, at, f)?;
+    turns(alloc, body, at, f, round, last, out)
+}
+
+// The step of a for.
+#[cycle(stmts)]
+#[tactic(auto, using(struct_ir::proofs::Views::followed_none))]
+fn for_step(
+    alloc: Global,
+    body: &Stmt,
+    step: &Stmt,
+    at: u32,
+    f: &Frame,
+) -> Result<Vec<Node>, NoMemory>
+    ensures { IfOk result (λ row. nodes_view row.items ≡ ends at (over_next (frame_view f.now) (stmt_view body.now)) (stmt_nodes (frame_view f.now) (stmt_view step.now) [] no_nodes)) }
+{
+    let mut last = Vec::with_capacity(alloc, 1)?;
+    latch(alloc, body, at, f, &mut last)?;
+    stmt(alloc, step, f, &[], &mut last)?;
+    Ok(last)
 }
 
 #[cycle(stmts)]
@@ -494,11 +607,11 @@ fn do_loop(
     f: &Frame,
     out: &mut Vec<Node>,
 ) -> Result<(), NoMemory>
-    ensures { OnOk result ((rest : Nodes) → followed out.new.items rest ≡ followed out.old.items (more_nodes (loop at (stmt_nodes (frame_view f.now) (stmt_view body.now) [] no_nodes) (test_nodes (frame_view f.now) (Some (expr_view e.now)) no_nodes)) rest)) }
+    ensures { OnOk result ((rest : Nodes) → followed out.new.items rest ≡ followed out.old.items (loop_nodes (frame_view f.now) at (stmt_view body.now) (stmt_nodes (frame_view f.now) (stmt_view body.now) [] no_nodes) (test_nodes (frame_view f.now) (Some (expr_view e.now)) no_nodes) rest)) }
 {
     let round = row_of(alloc, body, f, &[])?;
-    let step = test_alone(alloc, f, e)?;
-    rounds(out, at, round, step)
+    let step = do_step(alloc, body, at, e, f)?;
+    turns(alloc, body, at, f, round, step, out)
 }
 
 // A switch: the number of the chosen label, the flag, and the statements.
@@ -527,6 +640,8 @@ fn switch(
         homes: f.homes,
         first_temp,
         flag: Some(flag),
+        around: f.around,
+        outer: f.outer,
     };
     cases(alloc, body, at, chosen, flag, labels, &inner, left, out)
 }
@@ -573,16 +688,6 @@ fn guarded_stmt(
             branches(out, s.place, flag, one, Vec::new(alloc))
         }
     }
-}
-
-// A row of a loop's condition alone.
-#[tactic(auto, using(struct_ir::proofs::Views::followed_none))]
-fn test_alone(alloc: Global, f: &Frame, e: &Expr) -> Result<Vec<Node>, NoMemory>
-    ensures { IfOk result (λ row. nodes_view row.items ≡ test_nodes (frame_view f.now) (Some (expr_view e.now)) no_nodes) }
-{
-    let mut row = Vec::with_capacity(alloc, 1)?;
-    tests(alloc, f, e, &mut row)?;
-    Ok(row)
 }
 
 // A row of a statement alone.

@@ -8,7 +8,7 @@ use Rattle.lower_expressions.specs.declared.homes.Reach.TheVariants as reaches
 
 -- what stays the same in a function, and where a statement stands
 abbrev pub frame_view : Frame → forms.Frame
-frame_view f = record { structs = map layout_view f.structs.now; homes = f.homes.now; first = f.first_temp; flag = f.flag }
+frame_view f = record { structs = map layout_view f.structs.now; homes = f.homes.now; first = f.first_temp; flag = f.flag; around = f.around.now; outer = f.outer.now }
 
 -- how an object is reached
 abbrev pub reach_view : Reach → forms.Reach

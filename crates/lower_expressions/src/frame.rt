@@ -90,7 +90,7 @@ impl Reach {
     }
 }
 
-impl<'a> Frame<'a> {
+impl<'a, 'b, 'c> Frame<'a, 'b, 'c> {
     ghost use Rattle.std.specs.Prelude.{◌≡◌, IfOk};
     ghost use Rattle.c_tree.specs.TypedViews.{type_view, expr_view, expr_node_view};
     ghost use Rattle.lower_forms.specs.Forms.{home, register_in, register_of, pointed, own_register};

@@ -2,7 +2,7 @@ use c_tree::typed::Layout;
 
 /// What stays the same in a function, and where a statement stands.
 #[derive(Clone, Copy)]
-pub struct Frame<'a> {
+pub struct Frame<'a, 'b, 'c> {
     /// The structs of the program.
     pub structs: &'a [Layout],
     /// For each local the number of its stack object, or none where it is kept in the register of
@@ -12,6 +12,10 @@ pub struct Frame<'a> {
     pub first_temp: u32,
     /// The flag of the switch that a break leaves, or none where it leaves a loop.
     pub flag: Option<u32>,
+    /// The stack objects of the blocks around, up to the function's body.
+    pub around: &'b [u32],
+    /// Those of them that the loop around stands in.
+    pub outer: &'c [u32],
 }
 
 /// How an object is reached once the pointer to it is in a register.

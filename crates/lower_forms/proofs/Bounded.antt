@@ -4,7 +4,7 @@ use Rattle.std.proofs.lemmas.Option.{same_Some}
 use Rattle.std.specs.Prelude.{slice_get}
 use Rattle.c_tree.specs.Typed as tree
 use Rattle.struct_ir.specs.Nodes.{Func}
-use Rattle.lower_forms.specs.Programs.{frame_of, registers_of, last_nodes, func_lowered, funcs_lowered}
+use Rattle.lower_forms.specs.Programs.{frame_of, body_frame, registers_of, last_nodes, func_lowered, funcs_lowered}
 use Rattle.lower_forms.specs.Sizes.{nodes_in, nested_in, row_size, begun_in}
 use Rattle.lower_forms.specs.Laws.{IsBounded, LoweredCodeIsBounded}
 use Rattle.lower_forms.proofs.CostStmts.{inside_begun_in, cost_row}
@@ -20,14 +20,14 @@ last_flat true zero = omega arith
 last_flat true (suc n) = omega arith
 last_flat false n = omega arith
 
-enough : (m s n : ℕ) → n ≤ (8 + m) * s + 2 → n ≤ 16 * (s + 1) * (m + 1)
+enough : (m s n : ℕ) → n ≤ (8 + 2 * m) * s + 2 → n ≤ 16 * (s + 1) * (m + 1)
 enough m s n h = grind (arith, h)
 
 bounded : (structs : List tree.Layout) (b : Bool) (f : tree.Func) → IsBounded structs f (func_lowered structs b f)
 bounded structs b f =
     let m = begun_in (frame_of structs f) f.body in
-    let c = cost_row m (frame_of structs f) f.body [] (last_nodes b (registers_of f)) (omega (arith, inside_begun_in (frame_of structs f) f.body)) in
-    let d = deep_row (frame_of structs f) f.body [] (last_nodes b (registers_of f)) in
+    let c = cost_row m (body_frame structs f) f.body [] (last_nodes b (registers_of f)) (omega (arith, inside_begun_in (frame_of structs f) f.body)) in
+    let d = deep_row (body_frame structs f) f.body [] (last_nodes b (registers_of f)) in
     record {
       registers = omega arith;
       objects = refl;

@@ -1,5 +1,5 @@
 -- The code of statements is small.
-use Rattle.std.proofs.Common.{◌≡◌, ℕ, suc, ◌+◌, ◌*◌, ◌≤◌, ◌==◌, ℤ, Bool, true, false, List, [], ◌∷◌, ◌++◌, length, Option, Some, None, length-append, refl, ap, arith}
+use Rattle.std.proofs.Common.{◌≡◌, ℕ, suc, ◌+◌, ◌*◌, ◌≤◌, ◌==◌, ℤ, Bool, true, false, List, [], ◌∷◌, ◌++◌, length, Option, Some, None, length-append, refl, ap, arith, if◌then◌else◌}
 use Rattle.std.proofs.lemmas.Bool.Decides.{nat_tests}
 use Rattle.std.specs.Prelude.{nat_le, slice_get}
 use Rattle.ak_words.specs.declared.int_type.IntType.{IntType}
@@ -9,7 +9,7 @@ use Rattle.c_meaning.specs.Values.{is_atomic, operand_types, is_minus}
 use Rattle.c_meaning.specs.Switches.{stands_at}
 use Rattle.c_meaning.specs.Turns.{is_struct}
 use Rattle.struct_ir.specs.Nodes.{Place, Nodes, no_nodes, more_nodes, loop, break_, next_, ret}
-use Rattle.lower_forms.specs.Forms.{Frame, home, home_or_none, looped, switched, first_temp, begins, ends, with_home, declared_home, home_in, objects_by, objects_in, initialises, store_nodes, copy_nodes, own_register, assign_nodes, number_type, computes, change_nodes, update_by, update_nodes, equal_nodes, choose_nodes, begin_nodes, begin_if, label_nodes, stmt_place, guarded, break_nodes, test_nodes, declare_nodes, return_nodes, stmt_nodes, form_nodes, row_nodes, switch_nodes}
+use Rattle.lower_forms.specs.Forms.{Frame, opened, held, held_by, held_in, among, fresh, again, over_break, over_next, breaks_in, nexts_in, loop_nodes, home, home_or_none, looped, switched, first_temp, begins, ends, with_home, declared_home, home_in, objects_by, objects_in, initialises, store_nodes, copy_nodes, own_register, assign_nodes, number_type, computes, change_nodes, update_by, update_nodes, equal_nodes, choose_nodes, begin_nodes, begin_if, label_nodes, stmt_place, guarded, break_nodes, test_nodes, declare_nodes, return_nodes, stmt_nodes, form_nodes, row_nodes, switch_nodes}
 use Rattle.lower_forms.specs.Sizes.{nodes_in, expr_size, size_if, stmt_size, stmt_parts, row_size, one_if, begun, begun_by, begun_in}
 use Rattle.lower_forms.proofs.Growth.{times_suc, times_plus, grows_five, grows_eight}
 use Rattle.lower_forms.proofs.CostExprs.{AtMost, cost_step, cost_weak, cost_same, cost_one, cost_branch, cost_either, cost_becomes, cost_expr, cost_place, cost_dropped}
@@ -106,7 +106,7 @@ abbrev mutual
   inside_by homes (tree.if_ e one) = inside homes one
   inside_by homes (tree.if_else e one other) = inside homes one + inside homes other
   inside_by homes (tree.while_ e body) = inside homes body
-  inside_by homes (tree.for_ first e last body) = inside homes first + (inside homes last + inside homes body)
+  inside_by homes (tree.for_ first e last body) = one_if (home_of homes first) + (inside homes first + (inside homes last + inside homes body))
   inside_by homes (tree.do_while body e) = inside homes body
   inside_by homes (tree.switch e labels body) = inside_in homes body
   inside_by homes tree.break_ = 0
@@ -186,6 +186,66 @@ module _ (f : Frame) where
     pub inside_begun_in : (body : tree.Stmts) → objects_count f.homes body + inside_in f.homes body ≤ begun_in f body
     inside_begun_in tree.no_stmts = omega arith
     inside_begun_in (tree.more_stmts st rest) = omega (arith, inside_begun st, inside_begun_in rest)
+
+-- ---- the objects that end behind a loop, and before its step
+
+fresh_few : (outer is : List ℕ) → length (fresh outer is) ≤ length is
+fresh_few outer [] = omega arith
+fresh_few outer (i ∷ is) = by (among outer i) (fresh_few outer is)
+  where
+    by : (b : Bool) → length (fresh outer is) ≤ length is → length (if b then fresh outer is else i ∷ fresh outer is) ≤ suc (length is)
+    by true h = omega (arith, h)
+    by false h = omega (arith, h)
+
+again_few : (outer is : List ℕ) → length (again outer is) ≤ length is
+again_few outer [] = omega arith
+again_few outer (i ∷ is) = by (among outer i) (again_few outer is)
+  where
+    by : (b : Bool) → length (again outer is) ≤ length is → length (if b then i ∷ again outer is else again outer is) ≤ suc (length is)
+    by true h = omega (arith, h)
+    by false h = omega (arith, h)
+
+if_few : (b : Bool) (is : List ℕ) → length (if b then is else []) ≤ length is
+if_few true is = omega arith
+if_few false is = omega arith
+
+module _ (f : Frame) where
+  mutual
+    held_few : (st : tree.Stmt) → length (held f st) ≤ inside f.homes st
+    held_few (tree.at_stmt place node) = held_few_by node
+
+    held_few_by : (node : tree.StmtNode) → length (held_by f node) ≤ inside_by f.homes node
+    held_few_by (tree.block body) = omega (arith, length-append (held_in f body) (objects_in f body), held_few_in body, objects_counted f body)
+    held_few_by (tree.declare n init) = omega arith
+    held_few_by (tree.if_ e one) = held_few one
+    held_few_by (tree.if_else e one other) = omega (arith, length-append (held f one) (held f other), held_few one, held_few other)
+    held_few_by (tree.while_ e body) = omega arith
+    held_few_by (tree.for_ first e last body) = omega (arith, one_more (declared_home f first) [], ap one_if (home_is f first))
+    held_few_by (tree.do_while body e) = omega arith
+    held_few_by (tree.switch e labels body) = held_few_in body
+    held_few_by tree.break_ = omega arith
+    held_few_by tree.continue_ = omega arith
+    held_few_by (tree.return_ value) = omega arith
+    held_few_by (tree.assign a b) = omega arith
+    held_few_by (tree.update a op b) = omega arith
+    held_few_by (tree.evaluate e) = omega arith
+    held_few_by tree.empty = omega arith
+
+    held_few_in : (body : tree.Stmts) → length (held_in f body) ≤ inside_in f.homes body
+    held_few_in tree.no_stmts = omega arith
+    held_few_in (tree.more_stmts st rest) = omega (arith, length-append (held f st) (held_in f rest), held_few st, held_few_in rest)
+
+  break_few : (body : tree.Stmt) → length (over_break f body) ≤ inside f.homes body
+  break_few body = omega (arith, if_few (breaks_in body) (fresh f.outer (held f body)), fresh_few f.outer (held f body), held_few body)
+
+  next_few : (body : tree.Stmt) → length (over_next f body) ≤ inside f.homes body
+  next_few body = omega (arith, if_few (nexts_in body) (fresh f.outer (held f body)), fresh_few f.outer (held f body), held_few body)
+
+  -- a loop with its Ends
+  cost_rounds : (place : ℕ) (body : tree.Stmt) (round latch rest : Nodes) (a b : ℕ) → AtMost round a no_nodes → AtMost latch b no_nodes → AtMost (loop_nodes f place body round latch rest) (suc (a + b) + 2 * inside f.homes body) rest
+  cost_rounds place body round latch rest a b h k =
+      cost_weak _ _ _ _ (cost_step _ _ _ _ _ (cost_loop place round _ (ends place (over_break f body) rest) _ _ h (cost_step _ _ _ _ _ (cost_ends place (over_next f body) latch) k)) (cost_ends place (over_break f body) rest))
+      (omega (arith, break_few body, next_few body))
 
 -- ---- the labels of a switch
 
@@ -272,92 +332,94 @@ cost_break_by (Some flag) place left rest = cost_weak _ _ _ _ (cost_one _ _ _) (
 
 module _ (most : ℕ) where
   -- it is enough for an expression
-  enough : 5 ≤ 8 + most
+  enough : 5 ≤ 8 + 2 * most
   enough = omega arith
 
   mutual
-    pub cost_stmt : (f : Frame) (st : tree.Stmt) (left : List ℕ) (rest : Nodes) → length left + inside f.homes st ≤ most → Under (stmt_nodes f st left rest) ((8 + most) * stmt_size st) rest
+    pub cost_stmt : (f : Frame) (st : tree.Stmt) (left : List ℕ) (rest : Nodes) → length left + inside f.homes st ≤ most → Under (stmt_nodes f st left rest) ((8 + 2 * most) * stmt_size st) rest
     cost_stmt f (tree.at_stmt place node) left rest h = cost_form f place node left rest h
 
-    cost_form : (f : Frame) (place : ℕ) (node : tree.StmtNode) (left : List ℕ) (rest : Nodes) → length left + inside_by f.homes node ≤ most → Under (form_nodes f place node left rest) ((8 + most) * suc (stmt_parts node)) rest
+    cost_form : (f : Frame) (place : ℕ) (node : tree.StmtNode) (left : List ℕ) (rest : Nodes) → length left + inside_by f.homes node ≤ most → Under (form_nodes f place node left rest) ((8 + 2 * most) * suc (stmt_parts node)) rest
     cost_form f place (tree.block body) left rest h =
-        under _ _ _ _ (cost_step _ _ _ _ _ (cost_row f body (objects_in f body ++ left) _ (omega (arith, h, length-append (objects_in f body) left, objects_counted f body))) (cost_ends place (objects_in f body) rest))
-        (omega (arith, h, objects_counted f body, times_suc (8 + most) (row_size body)))
+        under _ _ _ _ (cost_step _ _ _ _ _ (cost_row (opened f (objects_in f body)) body (again f.outer (objects_in f body) ++ left) _ (omega (arith, h, length-append (again f.outer (objects_in f body)) left, again_few f.outer (objects_in f body), objects_counted f body))) (cost_ends place (objects_in f body) rest))
+        (omega (arith, h, objects_counted f body, times_suc (8 + 2 * most) (row_size body)))
     cost_form f place (tree.declare n init) left rest h =
-        under _ _ _ _ (cost_declare f place n init rest) (omega (arith, times_suc (8 + most) (size_if init), grows_five (8 + most) (size_if init) enough))
+        under _ _ _ _ (cost_declare f place n init rest) (omega (arith, times_suc (8 + 2 * most) (size_if init), grows_five (8 + 2 * most) (size_if init) enough))
     cost_form f place (tree.if_ e one) left rest h =
         under _ _ _ _ (cost_step _ _ _ _ _ (cost_expr f e _ _) (cost_branch _ _ _ _ rest _ _ (at_most _ _ _ (cost_stmt f one left no_nodes h)) (cost_same _)))
-        (omega (arith, times_suc (8 + most) (expr_size e + stmt_size one), times_plus (8 + most) (expr_size e) (stmt_size one), grows_five (8 + most) (expr_size e) enough))
+        (omega (arith, times_suc (8 + 2 * most) (expr_size e + stmt_size one), times_plus (8 + 2 * most) (expr_size e) (stmt_size one), grows_five (8 + 2 * most) (expr_size e) enough))
     cost_form f place (tree.if_else e one other) left rest h =
         under _ _ _ _ (cost_step _ _ _ _ _ (cost_expr f e _ _)
         (cost_branch _ _ _ _ rest _ _ (at_most _ _ _ (cost_stmt f one left no_nodes (omega (arith, h)))) (at_most _ _ _ (cost_stmt f other left no_nodes (omega (arith, h))))))
         (omega (
           arith,
-          times_suc (8 + most) (expr_size e + (stmt_size one + stmt_size other)),
-          times_plus (8 + most) (expr_size e) (stmt_size one + stmt_size other),
-          times_plus (8 + most) (stmt_size one) (stmt_size other),
-          grows_five (8 + most) (expr_size e) enough,
+          times_suc (8 + 2 * most) (expr_size e + (stmt_size one + stmt_size other)),
+          times_plus (8 + 2 * most) (expr_size e) (stmt_size one + stmt_size other),
+          times_plus (8 + 2 * most) (stmt_size one) (stmt_size other),
+          grows_five (8 + 2 * most) (expr_size e) enough,
         ))
     cost_form f place (tree.while_ e body) left rest h =
-        under _ _ _ _ (cost_loop place _ no_nodes rest _ _ (cost_step _ _ _ _ _ (cost_test (looped f) (Some e) _) (at_most _ _ _ (cost_stmt (looped f) body [] no_nodes (omega (arith, h))))) (cost_same _))
-        (omega (arith, times_suc (8 + most) (expr_size e + stmt_size body), times_plus (8 + most) (expr_size e) (stmt_size body), grows_five (8 + most) (expr_size e) enough))
+        under _ _ _ _ (cost_rounds (looped f) place body _ no_nodes rest _ _ (cost_step _ _ _ _ _ (cost_test (looped f) (Some e) _) (at_most _ _ _ (cost_stmt (looped f) body [] no_nodes (omega (arith, h))))) (cost_same _))
+        (omega (arith, h, times_suc (8 + 2 * most) (expr_size e + stmt_size body), times_plus (8 + 2 * most) (expr_size e) (stmt_size body), grows_five (8 + 2 * most) (expr_size e) enough))
     cost_form f place (tree.for_ first e last body) left rest h =
-        under _ _ _ _ (cost_step _ _ _ _ _ (at_most _ _ _ (cost_stmt f first left _ (omega (arith, h)))) (cost_step _ _ _ _ _ (cost_loop place _ _ _ _ _
-        (cost_step _ _ _ _ _ (cost_test (looped f) e _) (at_most _ _ _ (cost_stmt (looped f) body [] no_nodes (omega (arith, h))))) (at_most _ _ _ (cost_stmt (looped f) last [] no_nodes (omega (arith, h)))))
+        let inner : Frame = opened f (objects_by f first []) in
+        under _ _ _ _ (cost_step _ _ _ _ _ (at_most _ _ _ (cost_stmt inner first left _ (omega (arith, h)))) (cost_step _ _ _ _ _ (cost_rounds (looped inner) place body _ _ _ _ _
+        (cost_step _ _ _ _ _ (cost_test (looped inner) e _) (at_most _ _ _ (cost_stmt (looped inner) body [] no_nodes (omega (arith, h))))) (at_most _ _ _ (cost_stmt (looped inner) last [] no_nodes (omega (arith, h)))))
         (cost_weak _ _ 1 _ (cost_ends place (objects_by f first []) rest) (by_one (declared_home f first)))))
         (omega (
           arith,
-          times_suc (8 + most) ((stmt_size first + size_if e) + (stmt_size last + stmt_size body)),
-          times_plus (8 + most) (stmt_size first + size_if e) (stmt_size last + stmt_size body),
-          times_plus (8 + most) (stmt_size first) (size_if e),
-          times_plus (8 + most) (stmt_size last) (stmt_size body),
-          grows_five (8 + most) (size_if e) enough,
+          h,
+          times_suc (8 + 2 * most) ((stmt_size first + size_if e) + (stmt_size last + stmt_size body)),
+          times_plus (8 + 2 * most) (stmt_size first + size_if e) (stmt_size last + stmt_size body),
+          times_plus (8 + 2 * most) (stmt_size first) (size_if e),
+          times_plus (8 + 2 * most) (stmt_size last) (stmt_size body),
+          grows_five (8 + 2 * most) (size_if e) enough,
         ))
       where
         by_one : (o : Option ℕ) → length (with_home o []) ≤ 1
         by_one None = omega arith
         by_one (Some k) = omega arith
     cost_form f place (tree.do_while body e) left rest h =
-        under _ _ _ _ (cost_loop place _ _ rest _ _ (at_most _ _ _ (cost_stmt (looped f) body [] no_nodes (omega (arith, h)))) (cost_test (looped f) (Some e) no_nodes))
-        (omega (arith, times_suc (8 + most) (expr_size e + stmt_size body), times_plus (8 + most) (expr_size e) (stmt_size body), grows_five (8 + most) (expr_size e) enough))
+        under _ _ _ _ (cost_rounds (looped f) place body _ _ rest _ _ (at_most _ _ _ (cost_stmt (looped f) body [] no_nodes (omega (arith, h)))) (cost_test (looped f) (Some e) no_nodes))
+        (omega (arith, h, times_suc (8 + 2 * most) (expr_size e + stmt_size body), times_plus (8 + 2 * most) (expr_size e) (stmt_size body), grows_five (8 + 2 * most) (expr_size e) enough))
     cost_form f place (tree.switch e labels body) left rest h =
         under _ _ _ _ (cost_step _ _ _ _ _ (cost_expr f e _ _) (cost_step _ _ _ _ _ (cost_one _ _ _) (cost_step _ _ _ _ _ (cost_choose place (first_temp f) 0 labels _)
         (cost_step _ _ _ _ _ (cost_one _ _ _) (cost_switch (switched f) place (first_temp f) labels 0 body left rest h)))))
         (omega (
           arith,
           labels_few 0 labels,
-          times_suc (8 + most) (expr_size e + (length labels + row_size body)),
-          times_plus (8 + most) (expr_size e) (length labels + row_size body),
-          times_plus (8 + most) (length labels) (row_size body),
-          grows_five (8 + most) (expr_size e) enough,
-          grows_eight (8 + most) (length labels) (omega arith),
+          times_suc (8 + 2 * most) (expr_size e + (length labels + row_size body)),
+          times_plus (8 + 2 * most) (expr_size e) (length labels + row_size body),
+          times_plus (8 + 2 * most) (length labels) (row_size body),
+          grows_five (8 + 2 * most) (expr_size e) enough,
+          grows_eight (8 + 2 * most) (length labels) (omega arith),
         ))
     cost_form f place tree.break_ left rest h =
-        under _ _ _ _ (cost_break_by f.flag place left rest) (omega (arith, h, times_suc (8 + most) 0))
+        under _ _ _ _ (cost_break_by f.flag place left rest) (omega (arith, h, times_suc (8 + 2 * most) 0))
     cost_form f place tree.continue_ left rest h =
-        under _ _ _ _ (cost_step _ _ _ _ _ (cost_ends place left _) (cost_next place rest)) (omega (arith, h, times_suc (8 + most) 0))
+        under _ _ _ _ (cost_step _ _ _ _ _ (cost_ends place left _) (cost_next place rest)) (omega (arith, h, times_suc (8 + 2 * most) 0))
     cost_form f place (tree.return_ value) left rest h =
-        under _ _ _ _ (cost_return f place value rest) (omega (arith, times_suc (8 + most) (size_if value), grows_five (8 + most) (size_if value) enough))
+        under _ _ _ _ (cost_return f place value rest) (omega (arith, times_suc (8 + 2 * most) (size_if value), grows_five (8 + 2 * most) (size_if value) enough))
     cost_form f place (tree.assign a b) left rest h =
         under _ _ _ _ (cost_assign f place (own_register f (tree.node_of a)) a b _ rest)
-        (omega (arith, times_suc (8 + most) (expr_size a + expr_size b), times_plus (8 + most) (expr_size a) (expr_size b), grows_five (8 + most) (expr_size a) enough, grows_five (8 + most) (expr_size b) enough))
+        (omega (arith, times_suc (8 + 2 * most) (expr_size a + expr_size b), times_plus (8 + 2 * most) (expr_size a) (expr_size b), grows_five (8 + 2 * most) (expr_size a) enough, grows_five (8 + 2 * most) (expr_size b) enough))
     cost_form f place (tree.update a op b) left rest h =
         under _ _ _ _ (cost_update f place op (own_register f (tree.node_of a)) a b _ rest)
-        (omega (arith, times_suc (8 + most) (expr_size a + expr_size b), times_plus (8 + most) (expr_size a) (expr_size b), grows_five (8 + most) (expr_size a) enough, grows_five (8 + most) (expr_size b) enough))
+        (omega (arith, times_suc (8 + 2 * most) (expr_size a + expr_size b), times_plus (8 + 2 * most) (expr_size a) (expr_size b), grows_five (8 + 2 * most) (expr_size a) enough, grows_five (8 + 2 * most) (expr_size b) enough))
     cost_form f place (tree.evaluate e) left rest h =
-        under _ _ _ _ (cost_dropped f e _ rest) (omega (arith, times_suc (8 + most) (expr_size e), grows_five (8 + most) (expr_size e) enough))
-    cost_form f place tree.empty left rest h = under _ _ _ _ (cost_same _) (omega (arith, times_suc (8 + most) 0))
+        under _ _ _ _ (cost_dropped f e _ rest) (omega (arith, times_suc (8 + 2 * most) (expr_size e), grows_five (8 + 2 * most) (expr_size e) enough))
+    cost_form f place tree.empty left rest h = under _ _ _ _ (cost_same _) (omega (arith, times_suc (8 + 2 * most) 0))
 
-    pub cost_row : (f : Frame) (body : tree.Stmts) (left : List ℕ) (rest : Nodes) → length left + inside_in f.homes body ≤ most → AtMost (row_nodes f body left rest) ((8 + most) * row_size body) rest
+    pub cost_row : (f : Frame) (body : tree.Stmts) (left : List ℕ) (rest : Nodes) → length left + inside_in f.homes body ≤ most → AtMost (row_nodes f body left rest) ((8 + 2 * most) * row_size body) rest
     cost_row f tree.no_stmts left rest h = cost_weak _ _ _ _ (cost_same _) (omega arith)
     cost_row f (tree.more_stmts st body) left rest h =
         cost_weak _ _ _ _ (cost_step _ _ _ _ _ (cost_guarded f.flag (stmt_place st) (stmt_nodes f st left) _ _ (λ r. cost_stmt f st left r (omega (arith, h)))) (cost_row f body left rest (omega (arith, h))))
-        (omega (arith, times_plus (8 + most) (stmt_size st) (row_size body)))
+        (omega (arith, times_plus (8 + 2 * most) (stmt_size st) (row_size body)))
 
     cost_switch : (f : Frame) (place r : ℕ) (labels : List tree.Label) (i : ℕ) (body : tree.Stmts) (left : List ℕ) (rest : Nodes) → length left + inside_in f.homes body ≤ most
-        → AtMost (switch_nodes f place r labels i body left rest) (4 * labels_from i labels + (8 + most) * row_size body) rest
+        → AtMost (switch_nodes f place r labels i body left rest) (4 * labels_from i labels + (8 + 2 * most) * row_size body) rest
     cost_switch f place r labels i tree.no_stmts left rest h = cost_weak _ _ _ _ (cost_same _) (omega arith)
     cost_switch f place r labels i (tree.more_stmts st body) left rest h =
         cost_weak _ _ _ _ (cost_step _ _ _ _ _ (cost_labels place r i 0 labels _) (cost_step _ _ _ _ _
         (cost_guarded (Some (suc r)) (stmt_place st) (stmt_nodes f st left) _ _ (λ q. cost_stmt f st left q (omega (arith, h)))) (cost_switch f place r labels (suc i) body left rest (omega (arith, h)))))
-        (omega (arith, labels_split i labels, times_plus (8 + most) (stmt_size st) (row_size body)))
+        (omega (arith, labels_split i labels, times_plus (8 + 2 * most) (stmt_size st) (row_size body)))

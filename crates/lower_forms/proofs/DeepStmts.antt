@@ -8,7 +8,7 @@ use Rattle.c_meaning.specs.Values.{is_atomic, operand_types, is_minus}
 use Rattle.c_meaning.specs.Switches.{stands_at}
 use Rattle.c_meaning.specs.Turns.{is_struct}
 use Rattle.struct_ir.specs.Nodes.{Place, Nodes, no_nodes, more_nodes, loop, break_, next_, ret}
-use Rattle.lower_forms.specs.Forms.{Frame, home, looped, switched, first_temp, begins, ends, objects_by, objects_in, initialises, store_nodes, copy_nodes, own_register, assign_nodes, number_type, computes, change_nodes, update_by, update_nodes, equal_nodes, choose_nodes, begin_if, label_nodes, stmt_place, guarded, break_nodes, test_nodes, declare_nodes, return_nodes, stmt_nodes, form_nodes, row_nodes, switch_nodes}
+use Rattle.lower_forms.specs.Forms.{opened, again, over_break, over_next, loop_nodes, Frame, home, looped, switched, first_temp, begins, ends, objects_by, objects_in, initialises, store_nodes, copy_nodes, own_register, assign_nodes, number_type, computes, change_nodes, update_by, update_nodes, equal_nodes, choose_nodes, begin_if, label_nodes, stmt_place, guarded, break_nodes, test_nodes, declare_nodes, return_nodes, stmt_nodes, form_nodes, row_nodes, switch_nodes}
 use Rattle.lower_forms.specs.Sizes.{expr_depth, depth_if, stmt_depth, stmt_inside, row_depth}
 use Rattle.lower_forms.proofs.DeepExprs.{NoDeeper, deep_step, deep_weak, deep_same, deep_one, deep_branch, deep_either, deep_becomes, deep_expr, deep_place, deep_dropped}
 
@@ -121,25 +121,29 @@ deep_break_by : (flag : Option ℕ) (place : ℕ) (left : List ℕ) (rest : Node
 deep_break_by None place left rest = deep_weak _ _ _ _ (deep_step _ _ _ _ _ (deep_ends place left _) (deep_break place rest)) (omega arith)
 deep_break_by (Some flag) place left rest = deep_one _ _ _
 
+deep_rounds : (f : Frame) (place : ℕ) (body : tree.Stmt) (round latch rest : Nodes) (a b : ℕ) → NoDeeper round a no_nodes → NoDeeper latch b no_nodes → NoDeeper (loop_nodes f place body round latch rest) (suc (max 1 (max a b))) rest
+deep_rounds f place body round latch rest a b h k =
+    deep_weak _ _ _ _ (deep_step _ _ _ _ _ (deep_loop place round _ (ends place (over_break f body) rest) _ _ h (deep_step _ _ _ _ _ (deep_ends place (over_next f body) latch) k)) (deep_ends place (over_break f body) rest)) (omega arith)
+
 mutual
   pub deep_stmt : (f : Frame) (st : tree.Stmt) (left : List ℕ) (rest : Nodes) → NoDeeper (stmt_nodes f st left rest) (4 * stmt_depth st) rest
   deep_stmt f (tree.at_stmt place node) left rest = deep_form f place node left rest
 
   deep_form : (f : Frame) (place : ℕ) (node : tree.StmtNode) (left : List ℕ) (rest : Nodes) → NoDeeper (form_nodes f place node left rest) (4 * suc (stmt_inside node)) rest
   deep_form f place (tree.block body) left rest =
-      deep_weak _ _ _ _ (deep_step _ _ _ _ _ (deep_row f body (objects_in f body ++ left) _) (deep_ends place (objects_in f body) rest)) (omega arith)
+      deep_weak _ _ _ _ (deep_step _ _ _ _ _ (deep_row (opened f (objects_in f body)) body (again f.outer (objects_in f body) ++ left) _) (deep_ends place (objects_in f body) rest)) (omega arith)
   deep_form f place (tree.declare n init) left rest = deep_weak _ _ _ _ (deep_declare f place n init rest) (omega arith)
   deep_form f place (tree.if_ e one) left rest =
       deep_weak _ _ _ _ (deep_step _ _ _ _ _ (deep_expr f e _ _) (deep_branch _ _ _ _ rest _ _ (deep_stmt f one left no_nodes) (deep_same _))) (omega arith)
   deep_form f place (tree.if_else e one other) left rest =
       deep_weak _ _ _ _ (deep_step _ _ _ _ _ (deep_expr f e _ _) (deep_branch _ _ _ _ rest _ _ (deep_stmt f one left no_nodes) (deep_stmt f other left no_nodes))) (omega arith)
   deep_form f place (tree.while_ e body) left rest =
-      deep_weak _ _ _ _ (deep_loop place _ no_nodes rest _ _ (deep_step _ _ _ _ _ (deep_test (looped f) (Some e) _) (deep_stmt (looped f) body [] no_nodes)) (deep_same _)) (omega arith)
+      deep_weak _ _ _ _ (deep_rounds (looped f) place body _ no_nodes rest _ _ (deep_step _ _ _ _ _ (deep_test (looped f) (Some e) _) (deep_stmt (looped f) body [] no_nodes)) (deep_same _)) (omega arith)
   deep_form f place (tree.for_ first e last body) left rest =
-      deep_weak _ _ _ _ (deep_step _ _ _ _ _ (deep_stmt f first left _) (deep_step _ _ _ _ _ (deep_loop place _ _ _ _ _
-      (deep_step _ _ _ _ _ (deep_test (looped f) e _) (deep_stmt (looped f) body [] no_nodes)) (deep_stmt (looped f) last [] no_nodes)) (deep_ends place (objects_by f first []) rest))) (omega arith)
+      deep_weak _ _ _ _ (deep_step _ _ _ _ _ (deep_stmt (opened f (objects_by f first [])) first left _) (deep_step _ _ _ _ _ (deep_rounds (looped (opened f (objects_by f first []))) place body _ _ _ _ _
+      (deep_step _ _ _ _ _ (deep_test (looped (opened f (objects_by f first []))) e _) (deep_stmt (looped (opened f (objects_by f first []))) body [] no_nodes)) (deep_stmt (looped (opened f (objects_by f first []))) last [] no_nodes)) (deep_ends place (objects_by f first []) rest))) (omega arith)
   deep_form f place (tree.do_while body e) left rest =
-      deep_weak _ _ _ _ (deep_loop place _ _ rest _ _ (deep_stmt (looped f) body [] no_nodes) (deep_test (looped f) (Some e) no_nodes)) (omega arith)
+      deep_weak _ _ _ _ (deep_rounds (looped f) place body _ _ rest _ _ (deep_stmt (looped f) body [] no_nodes) (deep_test (looped f) (Some e) no_nodes)) (omega arith)
   deep_form f place (tree.switch e labels body) left rest =
       deep_weak _ _ _ _ (deep_step _ _ _ _ _ (deep_expr f e _ _) (deep_step _ _ _ _ _ (deep_one _ _ _) (deep_step _ _ _ _ _ (deep_choose place (first_temp f) 0 labels _)
       (deep_step _ _ _ _ _ (deep_one _ _ _) (deep_switch (switched f) place (first_temp f) labels 0 body left rest))))) (omega arith)

@@ -14,7 +14,7 @@ use Rattle.struct_ir.specs.Erased.{func_erased}
 use Rattle.struct_ir.specs.Valid.{Scope, outside, are_nodes, scope_of}
 use Rattle.struct_ir.specs.Whole.{takes_nothing, is_init_in}
 use Rattle.lower_forms.specs.Forms.{home_or_none}
-use Rattle.lower_forms.specs.Programs.{home_if, next_home, homes_from, object_of, with_object, objects_of, frame_of, registers_of, last_nodes, func_lowered, funcs_lowered, global_lowered, globals_lowered, lowered}
+use Rattle.lower_forms.specs.Programs.{home_if, next_home, homes_from, object_of, with_object, objects_of, body_frame, registers_of, last_nodes, func_lowered, funcs_lowered, global_lowered, globals_lowered, lowered}
 use Rattle.lower_forms.specs.Laws.{LoweredCodeIsSound, LoweredCodeIsWhole}
 use Rattle.lower_forms.proofs.Pieces.{Good, good_none, good_int, good_ret}
 use Rattle.lower_forms.proofs.GoodExprs.{Suits, same_of}
@@ -69,7 +69,7 @@ good_last x true (suc n) e =
 good_last x false n e = good_none x outside
 
 module _ (t : tree.Typed) (w : IsWellFormed t) where
-  suits : (b : Bool) (f : tree.Func) → IsFunc t f → Suits (scope_of (lowered t) (func_lowered t.structs b f)) (context_of t f) (frame_of t.structs f)
+  suits : (b : Bool) (f : tree.Func) → IsFunc t f → Suits (scope_of (lowered t) (func_lowered t.structs b f)) (context_of t f) (body_frame t.structs f)
   suits b f h = record {
     first = omega arith;
     flag = λ g e. absurd cc;
@@ -82,7 +82,7 @@ module _ (t : tree.Typed) (w : IsWellFormed t) where
 
   good_func : (b : Bool) (f : tree.Func) → IsFunc t f → Good (scope_of (lowered t) (func_lowered t.structs b f)) outside (func_lowered t.structs b f).nodes
   good_func b f h =
-      good_row _ (context_of t f) f.params f.result (frame_of t.structs f) (suits b f h) f.body in_function h.body (omega arith) outside (in_no_loop None outside) [] tt _
+      good_row _ (context_of t f) f.params f.result (body_frame t.structs f) (suits b f h) f.body in_function h.body (omega arith) outside (in_no_loop None outside) [] tt _
       (good_last _ b (registers_of f) refl)
 
   all_valid : (i : ℕ) (fs : List tree.Func) → AllByRecursion (IsFunc t) fs → list_all (λ f. are_nodes (scope_of (lowered t) f) outside f.nodes) (funcs_lowered t.structs t.main i fs) ≡ true

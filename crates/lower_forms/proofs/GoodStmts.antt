@@ -15,7 +15,7 @@ use Rattle.struct_ir.specs.Nodes.{Place, Nodes, no_nodes, more_nodes, plain, beg
 use Rattle.struct_ir.specs.Valid.{Scope, Around, body_of, latch_of, is_promoted, is_place}
 use Rattle.struct_ir.specs.Lists.{bare_place}
 use Rattle.lower_forms.specs.Counts.{count, count_parts, count_if, greatest, greatest_in, greatest_row, switches, switches_by, switches_in}
-use Rattle.lower_forms.specs.Forms.{Frame, looped, switched, home, first_temp, behind, reach, is_void, number_type, change_nodes, value_nodes, object_place, dropped_nodes, dropped_value, begins, with_home, home_in, declared_home, objects_by, objects_in, initialises, store_nodes, copy_nodes, own_register, assign_nodes, number_update, computes, update_at, update_nodes, equal_nodes, choose_nodes, begin_if, label_nodes, stmt_place, guarded, break_nodes, test_nodes, stmt_nodes, form_nodes, row_nodes, switch_nodes}
+use Rattle.lower_forms.specs.Forms.{opened, among, fresh, again, held, held_by, held_in, over_break, over_next, breaks_in, nexts_in, loop_nodes, Frame, looped, switched, home, first_temp, behind, reach, is_void, number_type, change_nodes, value_nodes, object_place, dropped_nodes, dropped_value, begins, with_home, home_in, declared_home, objects_by, objects_in, initialises, store_nodes, copy_nodes, own_register, assign_nodes, number_update, computes, update_at, update_nodes, equal_nodes, choose_nodes, begin_if, label_nodes, stmt_place, guarded, break_nodes, test_nodes, stmt_nodes, form_nodes, row_nodes, switch_nodes}
 use Rattle.lower_forms.proofs.Operands.{operand_promoted, moves_fits}
 use Rattle.lower_forms.proofs.Pieces.{Good, below, good_none, good_set, good_becomes, good_branches, good_loop, good_break, good_next, good_ret, good_int, good_long, place_in, place_bare, temp_in, load_step, store_step, copy_step, AreObjects, objects_both, good_ends, promoted_is}
 use Rattle.lower_forms.proofs.GoodExprs.{Suits, at_least_one, temps_below, good_change, good_call, called, BelowIf, register_below, local_below, reach_fits, good_expr, good_value, good_place, good_object_place, good_args}
@@ -237,6 +237,46 @@ module _ (x : Scope) (c : InScope) (f : Frame) (s : Suits x c f) where
   good_break_by place a left rest o None e l g = good_ends x a place left _ o (good_break x a place rest (l e) g)
   good_break_by place a left rest o (Some flag) e l g = good_int x a place flag 0 rest (s.flag flag e) g
 
+-- ---- the objects that end behind a loop, and before its step
+
+module _ (x : Scope) where
+  fresh_fit : (outer ks : List ℕ) → AreObjects x ks → AreObjects x (fresh outer ks)
+  fresh_fit outer [] h = tt
+  fresh_fit outer (k ∷ ks) h = by (among outer k) (fresh_fit outer ks h.1)
+    where
+      by : (b : Bool) → AreObjects x (fresh outer ks) → AreObjects x (if b then fresh outer ks else k ∷ fresh outer ks)
+      by true g = g
+      by false g = (h.0, g)
+
+  again_fit : (outer ks : List ℕ) → AreObjects x ks → AreObjects x (again outer ks)
+  again_fit outer [] h = tt
+  again_fit outer (k ∷ ks) h = by (among outer k) (again_fit outer ks h.1)
+    where
+      by : (b : Bool) → AreObjects x (again outer ks) → AreObjects x (if b then k ∷ again outer ks else again outer ks)
+      by true g = (h.0, g)
+      by false g = g
+
+  if_fit : (b : Bool) (ks : List ℕ) → AreObjects x ks → AreObjects x (if b then ks else [])
+  if_fit true ks h = h
+  if_fit false ks h = tt
+
+  module _ (c : InScope) (f : Frame) (s : Suits x c f) where
+    mutual
+      held_fit : (st : tree.Stmt) → AreObjects x (held f st)
+      held_fit (tree.at_stmt place node) = held_fit_by node
+
+      held_fit_by : (node : tree.StmtNode) → AreObjects x (held_by f node)
+      held_fit_by (tree.block body) = objects_both x (held_in f body) (objects_in f body) (held_fit_in body) (objects_fit x c f s body)
+      held_fit_by (tree.if_ e one) = held_fit one
+      held_fit_by (tree.if_else e one other) = objects_both x (held f one) (held f other) (held_fit one) (held_fit other)
+      held_fit_by (tree.for_ first e last body) = by_fits x c f s first [] tt
+      held_fit_by (tree.switch e labels body) = held_fit_in body
+      held_fit_by node = tt
+
+      held_fit_in : (body : tree.Stmts) → AreObjects x (held_in f body)
+      held_fit_in tree.no_stmts = tt
+      held_fit_in (tree.more_stmts st rest) = objects_both x (held f st) (held_in f rest) (held_fit st) (held_fit_in rest)
+
 -- ---- the labels of a switch
 
 module _ (x : Scope) (a : Around) (place r : ℕ) (low : suc (suc r) < x.temps) where
@@ -276,6 +316,9 @@ module _ (x : Scope) (c : InScope) (params : ℕ) (result : tree.Ty) where
   suits_loop : (f : Frame) → Suits x c f → Suits x c (looped f)
   suits_loop f s = record { first = s.first; flag = λ g e. absurd cc; local = s.local; object = s.object; global = s.global; literal = s.literal; params = s.params }
 
+  suits_block : (f : Frame) (objects : List ℕ) → Suits x c f → Suits x c (opened f objects)
+  suits_block f objects s = record { first = s.first; flag = s.flag; local = s.local; object = s.object; global = s.global; literal = s.literal; params = s.params }
+
   suits_switch : (f : Frame) → Suits x c f → suc (suc (first_temp f)) ≤ x.temps → Suits x c (switched f)
   suits_switch f s h = record { first = h; flag = λ g e. omega (arith, h, same_Some _ _ e); local = s.local; object = s.object; global = s.global; literal = s.literal; params = s.params }
 
@@ -296,6 +339,12 @@ module _ (x : Scope) (c : InScope) (params : ℕ) (result : tree.Ty) where
   well_step (tree.at_stmt place (tree.evaluate e)) b h k = k
   well_step (tree.at_stmt place tree.empty) b h k = k
 
+  -- a loop with its Ends
+  good_rounds : (f : Frame) → Suits x c f → (place : ℕ) (body : tree.Stmt) (a : Around) (round latch rest : Nodes) → Good x body_of round → Good x latch_of latch → Good x a rest → Good x a (loop_nodes f place body round latch rest)
+  good_rounds f s place body a round latch rest h k g =
+      good_loop x a place round _ _ h (good_ends x latch_of place (over_next f body) latch (if_fit x (nexts_in body) _ (fresh_fit x f.outer (held f body) (held_fit x c f s body))) k)
+      (good_ends x a place (over_break f body) rest (if_fit x (breaks_in body) _ (fresh_fit x f.outer (held f body) (held_fit x c f s body))) g)
+
   mutual
     pub good_stmt : (f : Frame) → Suits x c f → (st : tree.Stmt) (b : Jumps) → IsWell inside b st → first_temp f + (greatest st + 2 * switches st) ≤ x.temps → (a : Around) → Jumping b f.flag a → (left : List ℕ) → AreObjects x left → (rest : Nodes)
         → Good x a rest → Good x a (stmt_nodes f st left rest)
@@ -304,7 +353,7 @@ module _ (x : Scope) (c : InScope) (params : ℕ) (result : tree.Ty) where
     good_form : (f : Frame) → Suits x c f → (place : ℕ) (node : tree.StmtNode) (b : Jumps) → IsWellNode inside b node → first_temp f + (greatest_in node + 2 * switches_by node) ≤ x.temps → (a : Around) → Jumping b f.flag a → (left : List ℕ)
         → AreObjects x left → (rest : Nodes) → Good x a rest → Good x a (form_nodes f place node left rest)
     good_form f s place (tree.block body) b h k a l left o rest g =
-        good_row f s body b h k a l _ (objects_both x (objects_in f body) left (objects_fit x c f s body) o) _ (good_ends x a place (objects_in f body) rest (objects_fit x c f s body) g)
+        good_row (opened f (objects_in f body)) (suits_block f (objects_in f body) s) body b h k a l _ (objects_both x (again f.outer (objects_in f body)) left (again_fit x f.outer (objects_in f body) (objects_fit x c f s body)) o) _ (good_ends x a place (objects_in f body) rest (objects_fit x c f s body) g)
     good_form f s place (tree.declare n None) b h k a l left o rest g = good_begins x c f s a place n (home f n) rest (s.object n) (s.local n h.1.0 h.1.1) g
     good_form f s place (tree.declare n (Some e)) b h k a l left o rest g =
         good_begins x c f s a place n (home f n) _ (s.object n) (s.local n h.1.0 h.1.1) (good_expr x c f s e h.1.2.0 (first_temp f) (omega (arith, k)) a _
@@ -316,16 +365,18 @@ module _ (x : Scope) (c : InScope) (params : ℕ) (result : tree.Ty) where
         good_expr x c f s e h.0 (first_temp f) (omega (arith, k)) a _ (good_branches x a _ _ _ _ rest (omega (arith, k, at_least_one e))
         (good_stmt f s one b h.2 (omega (arith, k)) a l left o no_nodes (good_none x a)) (good_stmt f s other b h.4 (omega (arith, k)) a l left o no_nodes (good_none x a)) g)
     good_form f s place (tree.while_ e body) b h k a l left o rest g =
-        good_loop x a place _ no_nodes rest (good_test x c (looped f) (suits_loop f s) (Some e) (h.0, h.1) (omega (arith, k)) body_of refl _
+        good_rounds (looped f) (suits_loop f s) place body a _ no_nodes rest (good_test x c (looped f) (suits_loop f s) (Some e) (h.0, h.1) (omega (arith, k)) body_of refl _
         (good_stmt (looped f) (suits_loop f s) body in_loop h.2 (omega (arith, k)) body_of in_a_loop [] tt no_nodes (good_none x body_of))) (good_none x latch_of) g
     good_form f s place (tree.for_ first e last body) b h k a l left o rest g =
-        good_stmt f s first b h.0 (omega (arith, k)) a l left o _ (good_loop x a place _ _ _
-        (good_test x c (looped f) (suits_loop f s) e h.2 (omega (arith, k)) body_of refl _
-        (good_stmt (looped f) (suits_loop f s) body in_loop h.5 (omega (arith, k)) body_of in_a_loop [] tt no_nodes (good_none x body_of)))
-        (good_stmt (looped f) (suits_loop f s) last in_function (well_step last b h.4 h.3) (omega (arith, k)) latch_of (in_no_loop None latch_of) [] tt no_nodes (good_none x latch_of))
+        let inner : Frame = opened f (objects_by f first []) in
+        let si = suits_block f (objects_by f first []) s in
+        good_stmt inner si first b h.0 (omega (arith, k)) a l left o _ (good_rounds (looped inner) (suits_loop inner si) place body a _ _ _
+        (good_test x c (looped inner) (suits_loop inner si) e h.2 (omega (arith, k)) body_of refl _
+        (good_stmt (looped inner) (suits_loop inner si) body in_loop h.5 (omega (arith, k)) body_of in_a_loop [] tt no_nodes (good_none x body_of)))
+        (good_stmt (looped inner) (suits_loop inner si) last in_function (well_step last b h.4 h.3) (omega (arith, k)) latch_of (in_no_loop None latch_of) [] tt no_nodes (good_none x latch_of))
         (good_ends x a place _ rest (by_fits x c f s first [] tt) g))
     good_form f s place (tree.do_while body e) b h k a l left o rest g =
-        good_loop x a place _ _ rest (good_stmt (looped f) (suits_loop f s) body in_loop h.0 (omega (arith, k)) body_of in_a_loop [] tt no_nodes (good_none x body_of))
+        good_rounds (looped f) (suits_loop f s) place body a _ _ rest (good_stmt (looped f) (suits_loop f s) body in_loop h.0 (omega (arith, k)) body_of in_a_loop [] tt no_nodes (good_none x body_of))
         (good_test x c (looped f) (suits_loop f s) (Some e) (h.2, h.3) (omega (arith, k)) latch_of refl no_nodes (good_none x latch_of)) g
     good_form f s place (tree.switch e labels body) b h k a l left o rest g =
         let low : suc (suc (first_temp f)) < x.temps = omega (arith, k, at_least_one e) in

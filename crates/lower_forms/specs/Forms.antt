@@ -21,21 +21,28 @@ use Rattle.struct_ir.specs.Nodes as ir
 use Rattle.struct_ir.specs.meaning.Blocks.{same_type}
 
 -- what stays the same in a function: the structs of the program, and for each local the number of its stack object, or none where it's
--- kept in the register of its own number; and where a statement stands: the first register that is free, and the flag of the switch that
--- a break leaves, or none where it leaves a loop
+-- kept in the register of its own number; and where a statement stands: the first register that is free, the flag of the switch that
+-- a break leaves, or none where it leaves a loop, the stack objects of the blocks around, up to the function's body, and those of them
+-- that the loop around stands in
 pub record Frame : Type 0 where
   pub structs : List tree.Layout
   pub homes : List (Option ℕ)
   pub first : ℕ
   pub flag : Option ℕ
+  pub around : List ℕ
+  pub outer : List ℕ
 
 -- the same in a loop
 abbrev pub looped : Frame → Frame
-looped f = record { structs = f.structs; homes = f.homes; first = f.first; flag = None }
+looped f = record { structs = f.structs; homes = f.homes; first = f.first; flag = None; around = f.around; outer = f.around }
 
 -- between the braces of a switch, which takes two registers
 abbrev pub switched : Frame → Frame
-switched f = record { structs = f.structs; homes = f.homes; first = suc (suc f.first); flag = Some (suc f.first) }
+switched f = record { structs = f.structs; homes = f.homes; first = suc (suc f.first); flag = Some (suc f.first); around = f.around; outer = f.outer }
+
+-- in a block that declares locals with these stack objects
+abbrev pub opened : Frame → List ℕ → Frame
+opened f objects = record { structs = f.structs; homes = f.homes; first = f.first; flag = f.flag; around = objects ++ f.around; outer = f.outer }
 
 -- the stack object, if there is such a local and it has one
 abbrev pub home_or_none : Option (Option ℕ) → Option ℕ
@@ -405,6 +412,91 @@ abbrev pub objects_in : Frame → tree.Stmts → List ℕ
 objects_in f tree.no_stmts = []
 objects_in f (tree.more_stmts s rest) = objects_by f s (objects_in f rest)
 
+-- ---- what ends where a loop is left, or a round of it (C11 6.8.6.2, 6.8.6.3)
+
+-- a break that leaves the loop around, or a continue, stands in a statement; one in a loop of it is that loop's, and a break in a switch
+-- of it that switch's
+abbrev mutual
+  -- a break
+  pub breaks_in : tree.Stmt → Bool
+  breaks_in (tree.at_stmt place node) = breaks_by node
+
+  -- by the statement's form
+  pub breaks_by : tree.StmtNode → Bool
+  breaks_by (tree.block body) = breaks_among body
+  breaks_by (tree.if_ e one) = breaks_in one
+  breaks_by (tree.if_else e one other) = if breaks_in one then true else breaks_in other
+  breaks_by tree.break_ = true
+  breaks_by node = false
+
+  -- in a row
+  pub breaks_among : tree.Stmts → Bool
+  breaks_among tree.no_stmts = false
+  breaks_among (tree.more_stmts s rest) = if breaks_in s then true else breaks_among rest
+
+abbrev mutual
+  -- a continue
+  pub nexts_in : tree.Stmt → Bool
+  nexts_in (tree.at_stmt place node) = nexts_by node
+
+  -- by the statement's form
+  pub nexts_by : tree.StmtNode → Bool
+  nexts_by (tree.block body) = nexts_among body
+  nexts_by (tree.if_ e one) = nexts_in one
+  nexts_by (tree.if_else e one other) = if nexts_in one then true else nexts_in other
+  nexts_by (tree.switch e labels body) = nexts_among body
+  nexts_by tree.continue_ = true
+  nexts_by node = false
+
+  -- in a row
+  pub nexts_among : tree.Stmts → Bool
+  nexts_among tree.no_stmts = false
+  nexts_among (tree.more_stmts s rest) = if nexts_in s then true else nexts_among rest
+
+-- the stack objects of a statement's blocks, the inner ones first, but not of blocks in its loops: these end there
+abbrev mutual
+  -- of a statement
+  pub held : Frame → tree.Stmt → List ℕ
+  held f (tree.at_stmt place node) = held_by f node
+
+  -- by its form
+  pub held_by : Frame → tree.StmtNode → List ℕ
+  held_by f (tree.block body) = held_in f body ++ objects_in f body
+  held_by f (tree.if_ e one) = held f one
+  held_by f (tree.if_else e one other) = held f one ++ held f other
+  held_by f (tree.for_ first e last body) = objects_by f first []
+  held_by f (tree.switch e labels body) = held_in f body
+  held_by f node = []
+
+  -- of a row
+  pub held_in : Frame → tree.Stmts → List ℕ
+  held_in f tree.no_stmts = []
+  held_in f (tree.more_stmts s rest) = held f s ++ held_in f rest
+
+-- an object is among these
+abbrev pub among : List ℕ → (object : ℕ) → Bool
+among [] object = false
+among (k ∷ objects) object = if k == object then true else among objects object
+
+-- those of them that aren't declared around the loop around, too
+abbrev pub fresh : (outer : List ℕ) → List ℕ → List ℕ
+fresh outer [] = []
+fresh outer (object ∷ objects) = if among outer object then fresh outer objects else object ∷ fresh outer objects
+
+-- those that are: none in a program of C, where each local is declared once
+abbrev pub again : (outer : List ℕ) → List ℕ → List ℕ
+again outer [] = []
+again outer (object ∷ objects) = if among outer object then object ∷ again outer objects else again outer objects
+
+-- what ends behind the loop whose body this is, where a break may have left the blocks of any of these; the others have ended before, or
+-- never began, and then that does nothing
+abbrev pub over_break : Frame → (body : tree.Stmt) → List ℕ
+over_break f body = if breaks_in body then fresh f.outer (held f body) else []
+
+-- what ends before its step, once a continue may have left them
+abbrev pub over_next : Frame → (body : tree.Stmt) → List ℕ
+over_next f body = if nexts_in body then fresh f.outer (held f body) else []
+
 -- ---- assignments
 
 -- the value in t is a local's first one (C11 6.7.9); the pointer to its block comes to its own register, which nothing else uses
@@ -540,6 +632,11 @@ test_nodes f None rest = rest
 test_nodes f (Some e) rest =
     expr_nodes f e (first_temp f) (branches (tree.place_of e) (first_temp f) no_nodes (more_nodes (break_ (tree.place_of e)) no_nodes) rest)
 
+-- a loop of this body, whose round and latch are these: what a continue left ends before the step, what a break left behind the
+-- loop
+abbrev pub loop_nodes : Frame → (place : ℕ) → (body : tree.Stmt) → (round latch rest : Nodes) → Nodes
+loop_nodes f place body round latch rest = more_nodes (loop place round (ends place (over_next f body) latch)) (ends place (over_break f body) rest)
+
 -- a declaration, without a first value or with one
 abbrev pub declare_nodes : Frame → (place number : ℕ) → Option tree.Expr → Nodes → Nodes
 declare_nodes f place number None rest = begins place number (home f number) rest
@@ -551,8 +648,8 @@ abbrev pub return_nodes : Frame → (place : ℕ) → Option tree.Expr → Nodes
 return_nodes f place None rest = more_nodes (ret place None) rest
 return_nodes f place (Some e) rest = expr_nodes f e (first_temp f) (more_nodes (ret place (Some (first_temp f))) rest)
 
--- `left` are the stack objects that end where a continue, or a break that leaves a loop, leaves what declares them: those of the blocks
--- from here up to the loop around
+-- `left` are the stack objects that a continue, or a break that leaves a loop, ends itself: those of the blocks from here up to the loop
+-- around that are declared around the loop, too. All others of these blocks end behind the loop, and before its step
 abbrev mutual
   -- a statement is executed
   pub stmt_nodes : Frame → tree.Stmt → (left : List ℕ) → Nodes → Nodes
@@ -560,17 +657,23 @@ abbrev mutual
 
   -- by its form (C11 6.8)
   pub form_nodes : Frame → (place : ℕ) → tree.StmtNode → (left : List ℕ) → Nodes → Nodes
-  form_nodes f place (tree.block body) left rest = row_nodes f body (objects_in f body ++ left) (ends place (objects_in f body) rest)
+  form_nodes f place (tree.block body) left rest =
+      row_nodes (opened f (objects_in f body)) body (again f.outer (objects_in f body) ++ left) (ends place (objects_in f body) rest)
   form_nodes f place (tree.declare number init) left rest = declare_nodes f place number init rest
   form_nodes f place (tree.if_ e one) left rest =
       expr_nodes f e (first_temp f) (branches (tree.place_of e) (first_temp f) (stmt_nodes f one left no_nodes) no_nodes rest)
   form_nodes f place (tree.if_else e one other) left rest =
       expr_nodes f e (first_temp f) (branches (tree.place_of e) (first_temp f) (stmt_nodes f one left no_nodes) (stmt_nodes f other left no_nodes) rest)
-  form_nodes f place (tree.while_ e body) left rest = more_nodes (loop place (test_nodes (looped f) (Some e) (stmt_nodes (looped f) body [] no_nodes)) no_nodes) rest
+  form_nodes f place (tree.while_ e body) left rest =
+      loop_nodes (looped f) place body (test_nodes (looped f) (Some e) (stmt_nodes (looped f) body [] no_nodes)) no_nodes rest
   form_nodes f place (tree.for_ first e last body) left rest =
-      stmt_nodes f first left (more_nodes (loop place (test_nodes (looped f) e (stmt_nodes (looped f) body [] no_nodes)) (stmt_nodes (looped f) last [] no_nodes))
+      stmt_nodes (opened f (objects_by f first [])) first left
+      (loop_nodes (looped (opened f (objects_by f first []))) place body
+      (test_nodes (looped (opened f (objects_by f first []))) e (stmt_nodes (looped (opened f (objects_by f first []))) body [] no_nodes))
+      (stmt_nodes (looped (opened f (objects_by f first []))) last [] no_nodes)
       (ends place (objects_by f first []) rest))
-  form_nodes f place (tree.do_while body e) left rest = more_nodes (loop place (stmt_nodes (looped f) body [] no_nodes) (test_nodes (looped f) (Some e) no_nodes)) rest
+  form_nodes f place (tree.do_while body e) left rest =
+      loop_nodes (looped f) place body (stmt_nodes (looped f) body [] no_nodes) (test_nodes (looped f) (Some e) no_nodes) rest
   form_nodes f place (tree.switch e labels body) left rest =
       expr_nodes f e (suc (suc (first_temp f))) (sets_int place (first_temp f) (default_from 0 labels) (choose_nodes place (first_temp f) 0 labels
       (sets_int place (suc (first_temp f)) 0 (switch_nodes (switched f) place (first_temp f) labels 0 body left rest))))

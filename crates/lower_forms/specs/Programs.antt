@@ -3,7 +3,7 @@ use Rattle.std.specs.Prelude.{ℕ, zero, suc, ◌+◌, ◌*◌, ◌==◌, ◌≤
 use Rattle.c_tree.specs.Typed as tree
 use Rattle.c_tree.specs.TypedLayout.{size_in, align_in}
 use Rattle.struct_ir.specs.Nodes.{StackObject, Global, Func, Ir, Nodes, no_nodes, more_nodes, ret}
-use Rattle.lower_forms.specs.Forms.{Frame, sets_int, row_nodes}
+use Rattle.lower_forms.specs.Forms.{Frame, opened, objects_in, sets_int, row_nodes}
 use Rattle.lower_forms.specs.Counts.{greatest_row, switches_in}
 
 -- ---- stack objects
@@ -45,7 +45,11 @@ HasParams f = f.params ≤ length f.locals
 
 -- what stays the same in a function, and where its body begins: behind the locals each register is free
 abbrev pub frame_of : List tree.Layout → tree.Func → Frame
-frame_of structs f = record { structs = structs; homes = homes_from 0 f.locals; first = length f.locals; flag = None }
+frame_of structs f = record { structs = structs; homes = homes_from 0 f.locals; first = length f.locals; flag = None; around = []; outer = [] }
+
+-- among the locals that its body declares
+abbrev pub body_frame : List tree.Layout → tree.Func → Frame
+body_frame structs f = opened (frame_of structs f) (objects_in (frame_of structs f) f.body)
 
 -- how many registers a function has: one for each local, one for each node of its greatest full expression, and two for each switch
 abbrev pub registers_of : tree.Func → ℕ
@@ -65,7 +69,7 @@ func_lowered structs is_main f = record {
   temps = registers_of f;
   slots = 0;
   objects = objects_of structs f.locals;
-  nodes = row_nodes (frame_of structs f) f.body [] (last_nodes is_main (registers_of f));
+  nodes = row_nodes (body_frame structs f) f.body [] (last_nodes is_main (registers_of f));
 }
 
 -- functions, the first of which has this number

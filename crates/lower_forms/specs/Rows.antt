@@ -175,7 +175,8 @@ main = func (tree.integer int) (kept (tree.pointer (tree.integer int)) ∷ kept 
     ∷ tree.at_stmt 30 (tree.while_ (tree.at 36 (tree.integer int) (tree.num int (pos 1)))
     (tree.at_stmt 38 (tree.block (stmts (tree.at_stmt 43 (tree.declare 3 None) ∷ tree.at_stmt 48 tree.break_ ∷ []))))) ∷ [])
 
--- its code: an element is reached by the register of the pointer and an index; the array ends at the break, and where its block does
+-- its code: an element is reached by the register of the pointer and an index; the array ends where its block does, and behind the loop,
+-- for the break
 abbrev pub main_code : ir.Func
 main_code = record {
   params = 0;
@@ -187,8 +188,35 @@ main_code = record {
       ∷ sets 21 4 (ir.copy 2) ∷ sets 10 5 (ir.copy 0) ∷ sets 12 6 (ir.copy 1) ∷ sets 24 5 (ir.pointer_add 5 6 4) ∷ acts 24 (ir.load (accesses.Number int)) (element 0 6 4 ∷ []) (Some 5) []
       ∷ sets 22 4 (ir.apply Add int 4 5) ∷ sets 20 2 (ir.copy 4)
       ∷ ir.loop 30 (row (sets 36 4 (ir.constant int (pos 1)) ∷ ir.if_ 36 4 ir.no_nodes (row (ir.break_ 36 ∷ []))
-      ∷ ir.plain 43 (ir.begin_object 0) ∷ ir.plain 48 (ir.end_object 0) ∷ ir.break_ 48 ∷ ir.plain 38 (ir.end_object 0) ∷ [])) ir.no_nodes
+      ∷ ir.plain 43 (ir.begin_object 0) ∷ ir.break_ 48 ∷ ir.plain 38 (ir.end_object 0) ∷ [])) ir.no_nodes ∷ ir.plain 30 (ir.end_object 0)
       ∷ sets 0 0 (ir.constant int (pos 0)) ∷ ir.ret 0 (Some 0) ∷ []);
+}
+
+-- an array of n numbers of type int, in memory
+abbrev pub numbers : (n : ℕ) → tree.Local
+numbers n = lying (tree.array (tree.integer int) n)
+
+-- void leave(void){int s; .. while(s){int a[2];if(s)continue;{int b[1];if(s)break;}}}
+abbrev pub leave : tree.Func
+leave = func tree.void (kept (tree.integer int) ∷ numbers 2 ∷ numbers 1 ∷ [])
+    (tree.at_stmt 20 (tree.while_ (number 26 0) (tree.at_stmt 28 (tree.block (stmts (tree.at_stmt 31 (tree.declare 1 None)
+    ∷ tree.at_stmt 39 (tree.if_ (number 42 0) (tree.at_stmt 44 tree.continue_))
+    ∷ tree.at_stmt 53 (tree.block (stmts (tree.at_stmt 56 (tree.declare 2 None) ∷ tree.at_stmt 64 (tree.if_ (number 67 0) (tree.at_stmt 69 tree.break_)) ∷ []))) ∷ []))))) ∷ [])
+
+-- its code: each array ends where its block does; for the continue both end before the next round, and for the break both behind the loop,
+-- the inner one's first
+abbrev pub leave_code : ir.Func
+leave_code = record {
+  params = 0;
+  temps = 4;
+  slots = 0;
+  objects = record { size = 8; align = 4 } ∷ record { size = 4; align = 4 } ∷ [];
+  nodes = row (ir.loop 20 (row (sets 26 3 (ir.copy 0) ∷ ir.if_ 26 3 ir.no_nodes (row (ir.break_ 26 ∷ []))
+      ∷ ir.plain 31 (ir.begin_object 0) ∷ sets 42 3 (ir.copy 0) ∷ ir.if_ 42 3 (row (ir.next_ 44 ∷ [])) ir.no_nodes
+      ∷ ir.plain 56 (ir.begin_object 1) ∷ sets 67 3 (ir.copy 0) ∷ ir.if_ 67 3 (row (ir.break_ 69 ∷ [])) ir.no_nodes ∷ ir.plain 53 (ir.end_object 1)
+      ∷ ir.plain 28 (ir.end_object 0) ∷ []))
+      (row (ir.plain 20 (ir.end_object 1) ∷ ir.plain 20 (ir.end_object 0) ∷ []))
+      ∷ ir.plain 20 (ir.end_object 1) ∷ ir.plain 20 (ir.end_object 0) ∷ []);
 }
 
 -- the rows: what these functions are lowered to
@@ -197,3 +225,4 @@ pub record RowsHold : Type 0 where
   pub lowered_allocations : lowered (program main grow) ≡ record { globals = []; literals = []; funcs = grow_code ∷ main_code ∷ []; main = 1 }
   pub lowered_changes : lowered (program main change) ≡ record { globals = []; literals = []; funcs = change_code ∷ main_code ∷ []; main = 1 }
   pub lowered_updates : lowered (program main update) ≡ record { globals = []; literals = []; funcs = update_code ∷ main_code ∷ []; main = 1 }
+  pub lowered_jumps : lowered (program main leave) ≡ record { globals = []; literals = []; funcs = leave_code ∷ main_code ∷ []; main = 1 }

@@ -27,6 +27,7 @@ use Rattle.struct_ir.specs.meaning.Threads.{passed, nodes_of, is_plain, turned}
 use Rattle.lower_forms.specs.Forms as forms
 use Rattle.lower_forms.specs.Forms.{home_or_none, temps_of, sets, found}
 use Rattle.lower_forms.specs.Programs.{home_if, next_home, homes_from, func_lowered, funcs_lowered, lowered}
+use Rattle.lower_turns.proofs.Rooms.{whole_room}
 use Rattle.lower_turns.proofs.Relation.{HasKind, InRegister, no_value, one_value, InBlock, no_block, held_in, AgreesIn, outermost, HasValues, Stand, Calls, AtE, AtS, at_leaves, at_row, Callers, one_wants, one_drops, Together, both_went, both_unfit, same, at_begins, after_args, dropped_args}
 use Rattle.lower_turns.proofs.Operands.{fits_access}
 use Rattle.lower_turns.proofs.Steps.{stops_at}
@@ -133,13 +134,14 @@ variables_long (v ∷ vs) (suc n) le =
 
 -- the locals of a call that has just begun
 pub new_agrees : (t : tree.Typed) (m : ℕ) (f : tree.Func) (params : ℕ) (all : tree.Exprs) (args : List Value) (tm : ℕ → Held) (u : ℕ) → ParamsAre params f.locals all → Stand tm all args u
-    → AgreesIn f (outermost f) (first_locals f args) (passed tm (temps_of all u)) (λ i. None)
+    → AgreesIn f (outermost t.structs f) (first_locals f args) (passed tm (temps_of all u)) (λ i. None)
 new_agrees t m f params all args tm u h s = record {
   count = variables_long args (length f.locals) (args_length f.locals params all args tm u h s);
   low = omega arith;
   switches = tt;
   register = λ i l e none. new_register f.locals params all args tm u (length f.locals - length args) h s i l e;
   block = λ i k e. subst (λ x. InBlock x None) (sym (new_block f.locals params all args tm u (length f.locals - length args) 0 h s i k e)) no_block;
+  closed = λ k e. refl;
 }
 
 -- ---- a function is entered
@@ -172,7 +174,7 @@ module _ (g : Setting) (busy : Calls g.t) (vs : List Variable) (ob : ℕ → Opt
         (subst (λ (o : Option Func). Together g.t (enters (here g) m args kw (now g vs b) (Some f)) (turned (if_fits (is_plain g.answer) (went (record { top = record { at = then_ (nodes_of o) done; own = record { function = m; temps = passed tm (temps_of all u); objects = λ i. None; blocks = b } }; callers = record { at = k; own = own g ob tm b } ∷ g.cs' }) (actions.with_blocks g.s b))))) (sym (nth_lowered g.t m f there))
         (plainly_alike g.answer _ _ (actions.with_blocks g.s b)
         (both_went (actions.with_blocks g.s b) g.begun
-        (same (record { there = there; free = λ z. busy }) (new_agrees g.t m f f.params all args tm u params stand) (at_begins (at_row f.body fits.body (λ z. busy) at_leaves)) callers)))))
+        (same (record { there = there; free = λ z. busy }) (new_agrees g.t m f f.params all args tm u params stand) (at_begins (at_row f.body fits.body (whole_room g.t m f) (λ z. busy) at_leaves)) callers)))))
 
     pub enters_alike : (ty : tree.Ty) → ty ≡ f.result → (kw : Wait) (r : Nodes) (q : Position) → WaitIs g ob tm place ty kw u r q
         → Alike g (enters (here g) m args kw (now g vs b) (slice_get g.t.funcs m)) (then_ (nodes_for kw place (function m) all u r) q) (own g ob tm b)

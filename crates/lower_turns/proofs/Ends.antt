@@ -1,5 +1,5 @@
 -- Blocks that begin, and all that end with a block of statements or with a call.
-use Rattle.std.proofs.Common.{◌≡◌, ◌≢◌, ℕ, zero, suc, ◌+◌, ◌<◌, ◌≤◌, Bool, true, false, List, [], ◌∷◌, ◌++◌, length, set, Option, Some, None, refl, sym, ap, subst, ◌∙◌, arith, length-set, add-zero}
+use Rattle.std.proofs.Common.{◌≡◌, ◌≢◌, ℕ, zero, suc, ◌+◌, ◌<◌, ◌≤◌, Bool, true, false, List, [], ◌∷◌, ◌++◌, length, set, Option, Some, None, refl, sym, ap, subst, ◌∙◌, arith, length-set, add-zero, ◌==◌, if◌then◌else◌}
 use Rattle.std.specs.Prelude.{slice_get}
 use Rattle.block_store.specs.declared.values.Access.{Access}
 use Rattle.block_store.specs.declared.values.BlockKind.TheVariants as block_kinds
@@ -14,19 +14,20 @@ use Rattle.c_tree.specs.TypedLayout.{size_in}
 use Rattle.c_meaning.specs.Values.{access_of_type}
 use Rattle.c_meaning.specs.Control as source
 use Rattle.c_meaning.specs.Control.{Variable, Control}
-use Rattle.c_meaning.specs.Turns.{Now, Way, end_way, ended_local, ended_locals, without_block, without_blocks, with_block, made_local, declared_in, local_at, size_of_local, declared, with_declared, declared_by}
+use Rattle.c_meaning.specs.Turns.{Now, Way, end_way, ended_local, ended_locals, without_block, without_blocks, with_block, made_local, declared_in, local_at, size_of_local}
 use Rattle.struct_ir.specs.Nodes.{Nodes, StackObject, Func}
 use Rattle.struct_ir.specs.Structured.{Position, then_, out_of, end_of}
 use Rattle.struct_ir.specs.meaning.Blocks as code
 use Rattle.struct_ir.specs.meaning.Blocks.{Held, Own, set_at, without, object_ended, all_ended, begun, begun_after, size_of}
 use Rattle.struct_ir.specs.meaning.Threads.{over}
-use Rattle.lower_forms.specs.Forms.{Frame, home, home_or_none, with_home, ends, objects_in, objects_by, home_in}
+use Rattle.lower_forms.specs.Forms.{home, home_or_none, among, again, with_home, ends}
 use Rattle.lower_forms.specs.Programs.{home_if, next_home, homes_from, object_of, with_object, objects_of, lowered}
-use Rattle.lower_turns.proofs.Relation.{InRegister, no_value, one_value, InBlock, no_block, one_block, held_in, homes_of, at_end}
+use Rattle.lower_turns.proofs.Relation.{InRegister, no_value, one_value, InBlock, no_block, one_block, held_in, homes_of, at_end, in_a_block}
 use Rattle.lower_turns.proofs.Registers.{set_here, set_there}
 use Rattle.lower_turns.proofs.Calls.{nth_lowered}
-use Rattle.lower_turns.proofs.Steps.{ends_object, then_same}
-use Rattle.lower_turns.proofs.Setting.{Stands, Setting, here, now, own, Alike, frame, objects_over, Leaves, GoesS, halted_in}
+use Rattle.lower_turns.proofs.Steps.{onward, ends_object, then_same}
+use Rattle.lower_turns.proofs.Over.{over_last, over_twice, over_none, over_forgiven}
+use Rattle.lower_turns.proofs.Setting.{Stands, Setting, here, now, own, Alike, frame, objects_over, Leaves, Forgives, GoesS, halted_in, at_around}
 use Rattle.lower_turns.proofs.Objects.{held_here, held_there, object_at, Over, agrees_block, within_locals, end_one, end_register}
 
 -- ---- several blocks end
@@ -58,51 +59,118 @@ module _ (g : Setting) where
     ends_over [] vs b ob agrees = record { vs' = vs; b' = b; ob' = ob; source_is = refl; code_is = refl; agrees' = agrees }
     ends_over (i ∷ is) vs b ob agrees = ends_at i is (ends_over is) vs b ob agrees (home (frame g) i) refl
 
--- the same once the flag around is cleared
-ends_alike : (g : Setting) (finish : Now → Turn Control) (r : Nodes) (q : Position) → ((vs : List Variable) (b : Blocks) (tm : ℕ → Held) (ob : ℕ → Option ℕ) → Stands g vs tm ob → Alike g (finish (now g vs b)) (then_ r q) (own g ob tm b))
-    → (place : ℕ) (is : List ℕ) (vs : List Variable) (b : Blocks) (tm : ℕ → Held) (ob : ℕ → Option ℕ) → Stands g vs tm ob
-    → Alike g (finish (ended_locals is (now g vs b))) (then_ (ends place (homes_of (homes_from 0 g.f.locals) is) r) q) (own g ob tm b)
-ends_alike g finish r q goes place is vs b tm ob h =
-    let o = ends_over g tm is vs b ob h in
-    ends_then g (finish (ended_locals is (now g vs b))) place (homes_of (homes_from 0 g.f.locals) is) r q (own g ob tm b)
-    (subst (λ (x : Now). Alike g (finish x) (then_ r q) (objects_over (homes_of (homes_from 0 g.f.locals) is) (own g ob tm b))) (sym o.source_is)
-    (subst (λ (l : Own). Alike g (finish (now g o.vs' o.b')) (then_ r q) l) (sym o.code_is) (goes o.vs' o.b' tm o.ob' o.agrees')))
+-- ---- a block is left by a break that ends none of its objects but those that are declared around the loop, too
 
-ends_leaves : (g : Setting) (w : Way) (left : List ℕ) (r : Nodes) (q : Position) (place : ℕ) (is : List ℕ) (flag : Option ℕ) → Leaves g w left r q flag
-    → Leaves g (end_way is w) (homes_of (homes_from 0 g.f.locals) is ++ left) (ends place (homes_of (homes_from 0 g.f.locals) is) r) q flag
-ends_leaves g w left r q place is None goes = λ vs b tm ob h.
-    let o = ends_over g tm is vs b ob h in
-    subst (λ (l : Own). Alike g (w.breaks (ended_locals is (now g vs b))) (out_of q) l) (sym (over_two (homes_of (homes_from 0 g.f.locals) is) left (own g ob tm b)))
-    (subst (λ (x : Now). Alike g (w.breaks x) (out_of q) (objects_over left (objects_over (homes_of (homes_from 0 g.f.locals) is) (own g ob tm b)))) (sym o.source_is)
-    (subst (λ (l : Own). Alike g (w.breaks (now g o.vs' o.b')) (out_of q) (objects_over left l)) (sym o.code_is) (goes o.vs' o.b' tm o.ob' o.agrees')))
-ends_leaves g w left r q place is (Some flag) goes = λ vs b tm ob h. ends_alike (halted_in g) w.breaks r q goes place is vs b tm ob h
+pub over_swap : (is js : List ℕ) (l : Own) → objects_over is (objects_over js l) ≡ objects_over js (objects_over is l)
+over_swap is [] l = refl
+over_swap is (j ∷ js) l = over_swap is js (object_ended l j) ∙ ap (objects_over js) (over_last is l j)
+
+-- none of them has a block then
+pub ended_all : (is : List ℕ) (l : Own) (k : ℕ) → among is k ≡ true → (objects_over is l).objects k ≡ None
+ended_all is l k e = ap (λ (z : Own). z.objects k) (sym (over_twice is l k e) ∙ over_last is l k) ∙ set_here (objects_over is l).objects k None
+
+neither_by : (x : ℕ) (xs ys : List ℕ) (k : ℕ) → (among xs k ≡ false → among (xs ++ ys) k ≡ false) → (b : Bool) → (if b then true else among xs k) ≡ false → (if b then true else among (xs ++ ys) k) ≡ false
+neither_by x xs ys k rest true d = absurd cc
+neither_by x xs ys k rest false d = rest d
+
+among_neither : (xs ys : List ℕ) (k : ℕ) → among xs k ≡ false → among ys k ≡ false → among (xs ++ ys) k ≡ false
+among_neither [] ys k e h = h
+among_neither (x ∷ xs) ys k e h = neither_by x xs ys k (λ d. among_neither xs ys k d h) (x == k) e
+
+-- in a block that declares locals with these objects
+abbrev pub blocked_in : Setting → List ℕ → Setting
+blocked_in g os = at_around g (in_a_block g.a os) g.low
+
+-- where it begins
+pub opens_block : (g : Setting) (os : List ℕ) (vs : List Variable) (tm : ℕ → Held) (ob : ℕ → Option ℕ) → Stands g vs tm ob → Stands (blocked_in g os) vs tm ob
+opens_block g os vs tm ob h = record {
+  count = h.count;
+  low = h.low;
+  switches = h.switches;
+  register = h.register;
+  block = h.block;
+  closed = λ k e. h.closed k (outer_by os k e);
+}
+  where
+    outer_one : (x : ℕ) (xs : List ℕ) (k : ℕ) → (among (xs ++ g.a.around) k ≡ false → among g.a.around k ≡ false) → (b : Bool) → (if b then true else among (xs ++ g.a.around) k) ≡ false → among g.a.around k ≡ false
+    outer_one x xs k rest true d = absurd cc
+    outer_one x xs k rest false d = rest d
+
+    outer_by : (xs : List ℕ) (k : ℕ) → among (xs ++ g.a.around) k ≡ false → among g.a.around k ≡ false
+    outer_by [] k e = e
+    outer_by (x ∷ xs) k e = outer_one x xs k (outer_by xs k) (x == k) e
+
+-- behind the block, once they have ended
+pub shut : (g : Setting) (os : List ℕ) (vs : List Variable) (tm : ℕ → Held) (ob : ℕ → Option ℕ) → Stands (blocked_in g os) vs tm ob → ((k : ℕ) → among os k ≡ true → ob k ≡ None) → Stands g vs tm ob
+shut g os vs tm ob h ended = record {
+  count = h.count;
+  low = h.low;
+  switches = h.switches;
+  register = h.register;
+  block = h.block;
+  closed = λ k e. by k e (among os k) refl;
+}
+  where
+    by : (k : ℕ) → among g.a.around k ≡ false → (b : Bool) → among os k ≡ b → ob k ≡ None
+    by k e true d = ended k d
+    by k e false d = h.closed k (among_neither os g.a.around k d e)
+
+-- behind it
+block_ends : (g : Setting) (finish : Now → Turn Control) (r : Nodes) (q : Position) → ((vs : List Variable) (b : Blocks) (tm : ℕ → Held) (ob : ℕ → Option ℕ) → Stands g vs tm ob → Alike g (finish (now g vs b)) (then_ r q) (own g ob tm b))
+    → (place : ℕ) (is : List ℕ) (vs : List Variable) (b : Blocks) (tm : ℕ → Held) (ob : ℕ → Option ℕ) → Stands (blocked_in g (homes_of (homes_from 0 g.f.locals) is)) vs tm ob
+    → Alike g (finish (ended_locals is (now g vs b))) (then_ (ends place (homes_of (homes_from 0 g.f.locals) is) r) q) (own g ob tm b)
+block_ends g finish r q goes place is vs b tm ob h =
+    let os : List ℕ = homes_of (homes_from 0 g.f.locals) is in
+    let m : Own = own g ob tm b in
+    let o = ends_over (blocked_in g os) tm is vs b ob h in
+    let stands = shut g os o.vs' tm o.ob' o.agrees' (λ k e. sym (ap (λ (z : Own). z.objects k) o.code_is) ∙ ended_all os m k e) in
+    ends_then g (finish (ended_locals is (now g vs b))) place os r q m
+    (subst (λ (x : Now). Alike g (finish x) (then_ r q) (objects_over os m)) (sym o.source_is)
+    (subst (λ (l : Own). Alike g (finish (now g o.vs' o.b')) (then_ r q) l) (sym o.code_is) (goes o.vs' o.b' tm o.ob' stands)))
+
+-- at a position where the other objects end next anyway
+block_left : (g : Setting) (finish : Now → Turn Control) (left : List ℕ) (q : Position) (is : List ℕ)
+    → ((k : ℕ) → among (homes_of (homes_from 0 g.f.locals) is) k ≡ true → among g.a.outer k ≡ false → Forgives g q k)
+    → ((vs : List Variable) (b : Blocks) (tm : ℕ → Held) (ob : ℕ → Option ℕ) → Stands g vs tm ob → Alike g (finish (now g vs b)) q (objects_over left (own g ob tm b)))
+    → (vs : List Variable) (b : Blocks) (tm : ℕ → Held) (ob : ℕ → Option ℕ) → Stands (blocked_in g (homes_of (homes_from 0 g.f.locals) is)) vs tm ob
+    → Alike g (finish (ended_locals is (now g vs b))) q (objects_over (again g.a.outer (homes_of (homes_from 0 g.f.locals) is) ++ left) (own g ob tm b))
+block_left g finish left q is forgives goes vs b tm ob h =
+    let os : List ℕ = homes_of (homes_from 0 g.f.locals) is in
+    let m : Own = own g ob tm b in
+    let o = ends_over (blocked_in g os) tm is vs b ob h in
+    let stands = shut g os o.vs' tm o.ob' o.agrees' (λ k e. sym (ap (λ (z : Own). z.objects k) o.code_is) ∙ ended_all os m k e) in
+    let same : onward (lowered g.t) g.thread g.answer g.cs' g.s q (objects_over (again g.a.outer os ++ left) m) ≡ onward (lowered g.t) g.thread g.answer g.cs' g.s q (objects_over left (objects_over os m))
+    = ap (onward (lowered g.t) g.thread g.answer g.cs' g.s q) (over_two (again g.a.outer os) left m ∙ over_swap left (again g.a.outer os) m)
+    ∙ sym (over_forgiven (lowered g.t) g.thread g.answer g.cs' g.s g.a.outer os q forgives (objects_over left m))
+    ∙ ap (onward (lowered g.t) g.thread g.answer g.cs' g.s q) (over_swap os left m) in
+    then_same (lowered g.t) g.thread g.answer g.cs' g.s g.t (finish (ended_locals is (now g vs b))) q q (objects_over (again g.a.outer os ++ left) m) (objects_over left (objects_over os m)) same
+    (subst (λ (x : Now). Alike g (finish x) q (objects_over left (objects_over os m))) (sym o.source_is)
+    (subst (λ (l : Own). Alike g (finish (now g o.vs' o.b')) q (objects_over left l)) (sym o.code_is) (goes o.vs' o.b' tm o.ob' stands)))
+
+block_leaves : (g : Setting) (w : Way) (left : List ℕ) (r : Nodes) (q : Position) (place : ℕ) (is : List ℕ) (flag : Option ℕ)
+    → (flag ≡ None → (k : ℕ) → among (homes_of (homes_from 0 g.f.locals) is) k ≡ true → among g.a.outer k ≡ false → Forgives g (out_of q) k) → Leaves g w left r q flag
+    → Leaves (blocked_in g (homes_of (homes_from 0 g.f.locals) is)) (end_way is w) (again g.a.outer (homes_of (homes_from 0 g.f.locals) is) ++ left) (ends place (homes_of (homes_from 0 g.f.locals) is) r) q flag
+block_leaves g w left r q place is None forgives goes = block_left g w.breaks left (out_of q) is (forgives refl) goes
+block_leaves g w left r q place is (Some flag) forgives goes = λ vs b tm ob h. block_ends (halted_in g) w.breaks r q goes place is vs b tm ob h
+
+-- where a loop is left by its condition, and before its step: none of these objects has a block, so their Ends do nothing
+pub none_left : (g : Setting) (vs : List Variable) (b : Blocks) (tm : ℕ → Held) (ob : ℕ → Option ℕ) → Stands g vs tm ob → (place : ℕ) (os : List ℕ) → ((k : ℕ) → among os k ≡ true → among g.a.around k ≡ false) → (x : Turn Control) (r : Nodes) (q : Position)
+    → Alike g x (then_ r q) (own g ob tm b) → Alike g x (then_ (ends place os r) q) (own g ob tm b)
+none_left g vs b tm ob h place os apart x r q goes =
+    ends_then g x place os r q (own g ob tm b) (subst (λ (l : Own). Alike g x (then_ r q) l) (sym (over_none os (own g ob tm b) (λ k e. h.closed k (apart k e)))) goes)
 
 -- a block's locals end behind it, and on every way out
 pub end_goes : (g : Setting) (io : Jumps) (w : Way) (left : List ℕ) (r : Nodes) (q : Position) → GoesS g io w left r q → (place : ℕ) (is : List ℕ)
-    → GoesS g io (end_way is w) (homes_of (homes_from 0 g.f.locals) is ++ left) (ends place (homes_of (homes_from 0 g.f.locals) is) r) q
-end_goes g io w left r q goes place is = record {
-  at = at_end place is goes.at;
-  end = λ vs b tm ob h. ends_alike g w.end r q goes.end place is vs b tm ob h;
-  breaks = λ e. ends_leaves g w left r q place is g.a.flag (goes.breaks e);
-  continues = λ e vs b tm ob h.
-      let o = ends_over g tm is vs b ob h in
-      subst (λ (l : Own). Alike g (w.continues (ended_locals is (now g vs b))) (end_of q) l) (sym (over_two (homes_of (homes_from 0 g.f.locals) is) left (own g ob tm b)))
-      (subst (λ (x : Now). Alike g (w.continues x) (end_of q) (objects_over left (objects_over (homes_of (homes_from 0 g.f.locals) is) (own g ob tm b)))) (sym o.source_is)
-      (subst (λ (l : Own). Alike g (w.continues (now g o.vs' o.b')) (end_of q) (objects_over left l)) (sym o.code_is) (goes.continues e o.vs' o.b' tm o.ob' o.agrees')));
+    → ((k : ℕ) → among (homes_of (homes_from 0 g.f.locals) is) k ≡ true → among g.a.outer k ≡ false → g.a.over k ≡ true)
+    → GoesS (blocked_in g (homes_of (homes_from 0 g.f.locals) is)) io (end_way is w) (again g.a.outer (homes_of (homes_from 0 g.f.locals) is) ++ left) (ends place (homes_of (homes_from 0 g.f.locals) is) r) q
+end_goes g io w left r q goes place is covers = record {
+  at = at_end place is covers goes.at;
+  end = λ vs b tm ob h. block_ends g w.end r q goes.end place is vs b tm ob h;
+  breaks = λ e. block_leaves g w left r q place is g.a.flag (λ none k h apart. goes.over_breaks e none k (covers k h apart)) (goes.breaks e);
+  continues = λ e. block_left g w.continues left (end_of q) is (λ k h apart. goes.over_nexts e k (covers k h apart)) (goes.continues e);
+  over_breaks = goes.over_breaks;
+  over_nexts = goes.over_nexts;
 }
-
--- the stack objects of a block are those of the locals that it declares
-pub objects_are : (fr : Frame) (body : tree.Stmts) → homes_of fr.homes (declared body) ≡ objects_in fr body
-objects_are fr tree.no_stmts = refl
-objects_are fr (tree.more_stmts (tree.at_stmt place node) rest) = by_form fr node (declared rest) (objects_in fr rest) (objects_are fr rest)
-  where
-    by_form : (fr : Frame) (node : tree.StmtNode) (is os : List ℕ) → homes_of fr.homes is ≡ os → homes_of fr.homes (with_declared node is) ≡ with_home (home_in fr node) os
-    by_form fr (tree.declare i init) is os e = ap (with_home (home fr i)) e
-    by_form fr node is os e = e
-
-pub first_objects : (fr : Frame) (s : tree.Stmt) → homes_of fr.homes (declared_by s []) ≡ objects_by fr s []
-first_objects fr (tree.at_stmt place (tree.declare i init)) = refl
-first_objects fr (tree.at_stmt place node) = refl
 
 -- ---- a block begins
 
@@ -118,9 +186,9 @@ module _ (g : Setting) (vs : List Variable) (tm : ℕ → Held) (ob : ℕ → Op
   object_size i k l e h =
       ap (λ (o : Option Func). size_of (slice_get (code.objects_of o) k)) (nth_lowered g.t g.n g.f g.call.there) ∙ ap size_of (object_at g.t.structs g.f.locals i k l e h)
 
-  pub begin_block : (b : Blocks) (i k : ℕ) (l : tree.Local) → slice_get g.f.locals i ≡ Some l → home (frame g) i ≡ Some k
+  pub begin_block : (b : Blocks) (i k : ℕ) (l : tree.Local) → slice_get g.f.locals i ≡ Some l → home (frame g) i ≡ Some k → among g.a.around k ≡ true
       → Begun g tm k (length (ended_local i (now g vs b)).world.blocks) (made_local (here g) i (now g vs b)) (begun (lowered g.t) (own g ob tm b) k)
-  begin_block b i k l e has =
+  begin_block b i k l e has inside =
       let o = end_one g vs tm ob agrees b i k has in
       let blocks_are : without b (ob k) ≡ o.b' = ap (λ (z : Own). z.blocks) o.code_is in
       let name_is : length (ended_local i (now g vs b)).world.blocks ≡ length o.b' = ap (λ (z : Now). length z.world.blocks) o.source_is in
@@ -134,7 +202,7 @@ module _ (g : Setting) (vs : List Variable) (tm : ℕ → Held) (ob : ℕ → Op
           agrees' = agrees_block g o.vs' tm o.ob' o.agrees' i k has (set o.vs' i (source.lies (length o.b'))) (set_at ob k (Some (length o.b'))) (length-set o.vs' i (source.lies (length o.b'))) (λ j ne. held_there o.vs' i j (source.lies (length o.b')) ne)
               (λ m ne. set_there ob k (Some (length o.b')) m ne ∙ sym (set_there ob k None m ne) ∙ ap (λ (z : Own). z.objects m) o.code_is)
               (subst (λ y. InBlock y (set_at ob k (Some (length o.b')) k)) (sym (held_here o.vs' i (source.lies (length o.b')) (within_locals g o.vs' tm o.ob' o.agrees' i k has)))
-              (subst (InBlock (source.lies (length o.b'))) (sym (set_here ob k (Some (length o.b')))) (one_block (length o.b'))));
+              (subst (InBlock (source.lies (length o.b'))) (sym (set_here ob k (Some (length o.b')))) (one_block (length o.b')))) (λ z. let c : true ≡ false = sym inside ∙ z in absurd cc);
         };
         there = set_here ob k (Some (length o.b')) ∙ ap Some (sym name_is);
       }

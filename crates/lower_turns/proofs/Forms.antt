@@ -27,7 +27,7 @@ use Rattle.lower_turns.proofs.Relation.{ctx, InRegister, no_value, Calls, IsPlac
 use Rattle.lower_turns.proofs.Registers.{set_here, set_there}
 use Rattle.lower_turns.proofs.Operands.{pointer_scalar, sized_pointer, moved_pointer, operand_scalars, fits_access, fits_scalar}
 use Rattle.lower_turns.proofs.Steps.{begins_object, set_then}
-use Rattle.lower_turns.proofs.Setting.{Stands, Setting, here, now, own, Alike, frame, start, start_is, GoesS, of_kind}
+use Rattle.lower_turns.proofs.Setting.{IsOpen, Stands, Setting, here, now, own, Alike, frame, start, start_is, GoesS, of_kind}
 use Rattle.lower_turns.proofs.Calls.{all_at, nth_mapped}
 use Rattle.lower_turns.proofs.Layouts.{size_small}
 use Rattle.lower_turns.proofs.Locals.{register_is, block_is, struct_is_place}
@@ -159,11 +159,11 @@ module _ (g : Setting) where
     -- ---- declarations
 
     -- the block of a local begins on both sides
-    block_begins : (F : Now → Turn Control) (place i k : ℕ) (l : tree.Local) (ns : Nodes) → slice_get g.f.locals i ≡ Some l → home (frame g) i ≡ Some k
+    block_begins : (F : Now → Turn Control) (place i k : ℕ) (l : tree.Local) (ns : Nodes) → slice_get g.f.locals i ≡ Some l → home (frame g) i ≡ Some k → IsOpen g i
         → ((xs : List Variable) (c : Blocks) (o : ℕ → Option ℕ) → Stands g xs tm o → o k ≡ Some (length (ended_local i (now g vs b)).world.blocks) → Alike g (F (now g xs c)) (then_ ns q) (own g o tm c))
         → Alike g (F (made_local (here g) i (now g vs b))) (then_ (forms.begins place i (home (frame g) i) ns) q) (own g ob tm b)
-    block_begins F place i k l ns e has rest =
-        let m = begin_block g vs tm ob agrees b i k l e has in
+    block_begins F place i k l ns e has inside rest =
+        let m = begin_block g vs tm ob agrees b i k l e has (inside k has) in
         subst (λ (hm : Option ℕ). Alike g (F (made_local (here g) i (now g vs b))) (then_ (forms.begins place i hm ns) q) (own g ob tm b)) (sym has)
         (stepped g (F (made_local (here g) i (now g vs b))) (then_ (forms.begins place i (Some k) ns) q) (then_ ns q) (own g ob tm b) (begun (lowered g.t) (own g ob tm b) k)
         (begins_object (lowered g.t) g.thread g.answer g.cs' g.s place k ns q (own g ob tm b))
@@ -180,27 +180,27 @@ module _ (g : Setting) where
         (rest (set vs i source.unset) (set_at tm i code.unset) (agrees_value g vs tm ob agrees i l e none source.unset (set_at tm i code.unset) (λ j lt ne. set_there tm i code.unset j ne)
         (subst (InRegister (access_of_type l.ty) source.unset) (sym (set_here tm i code.unset)) no_value))))
 
-    none_at : (place i : ℕ) (l : tree.Local) → slice_get g.f.locals i ≡ Some l → (m : Bool) → is_block (local_at (here g) i) ≡ m
+    none_at : (place i : ℕ) (l : tree.Local) → slice_get g.f.locals i ≡ Some l → IsOpen g i → (m : Bool) → is_block (local_at (here g) i) ≡ m
         → Alike g (w.end (if m then made_local (here g) i (now g vs b) else with_variable i source.unset (now g vs b))) (then_ (forms.begins place i (home (frame g) i) r) q) (own g ob tm b)
-    none_at place i l e true h = let k = block_some i h in block_begins w.end place i k.0 l r e k.1 (λ xs c o z there. goes.end xs c tm o z)
-    none_at place i l e false h = register_begins w.end place i l r e (register_none i h) (λ xs a z. goes.end xs b a ob z)
+    none_at place i l e inside true h = let k = block_some i h in block_begins w.end place i k.0 l r e k.1 inside (λ xs c o z there. goes.end xs c tm o z)
+    none_at place i l e inside false h = register_begins w.end place i l r e (register_none i h) (λ xs a z. goes.end xs b a ob z)
 
-    pub declares_none : (place i : ℕ) (l : tree.Local) → slice_get g.f.locals i ≡ Some l → Alike g (declares (here g) place i None w (now g vs b)) (then_ (declare_nodes (frame g) place i None r) q) (own g ob tm b)
-    declares_none place i l e = none_at place i l e (is_block (local_at (here g) i)) refl
+    pub declares_none : (place i : ℕ) (l : tree.Local) → slice_get g.f.locals i ≡ Some l → IsOpen g i → Alike g (declares (here g) place i None w (now g vs b)) (then_ (declare_nodes (frame g) place i None r) q) (own g ob tm b)
+    declares_none place i l e inside = none_at place i l e inside (is_block (local_at (here g) i)) refl
 
     module _ (busy : Calls g.t) where
-      some_at : (place i : ℕ) (l : tree.Local) (e : tree.Expr) → slice_get g.f.locals i ≡ Some l → IsTyped (ctx g.t g.n g.f) e → Fits (tree.type_of e) l.ty → IsScalar (tree.type_of e) → (m : Bool) → is_block (local_at (here g) i) ≡ m
+      some_at : (place i : ℕ) (l : tree.Local) (e : tree.Expr) → slice_get g.f.locals i ≡ Some l → IsTyped (ctx g.t g.n g.f) e → Fits (tree.type_of e) l.ty → IsScalar (tree.type_of e) → IsOpen g i → (m : Bool) → is_block (local_at (here g) i) ≡ m
           → Alike g (if m then run (here g) e (place_way (here g) place (is_atomic_local (local_at (here g) i)) (values.Pointer (To (length (ended_local i (now g vs b)).world.blocks) 0)) w) (made_local (here g) i (now g vs b))
           else run (here g) e (local_way i w) (with_variable i source.unset (now g vs b)))
           (then_ (forms.begins place i (home (frame g) i) (expr_nodes (frame g) e (start g) (forms.initialises place (home (frame g) i) i (start g) (tree.type_of e) r))) q) (own g ob tm b)
-      some_at place i l e there typed fits scalar true h =
+      some_at place i l e there typed fits scalar inside true h =
           let k = block_some i h in
           let lt : i < start g = omega (arith, start_is g, within_locals g vs tm ob agrees i k.0 k.1, agrees.count) in
-          block_begins (λ x. run (here g) e (place_way (here g) place (is_atomic_local (local_at (here g) i)) (values.Pointer (To (length (ended_local i (now g vs b)).world.blocks) 0)) w) x) place i k.0 l (expr_nodes (frame g) e (start g) (forms.initialises place (home (frame g) i) i (start g) (tree.type_of e) r)) there k.1
+          block_begins (λ x. run (here g) e (place_way (here g) place (is_atomic_local (local_at (here g) i)) (values.Pointer (To (length (ended_local i (now g vs b)).world.blocks) 0)) w) x) place i k.0 l (expr_nodes (frame g) e (start g) (forms.initialises place (home (frame g) i) i (start g) (tree.type_of e) r)) there k.1 inside
           (λ xs d o z is. subst (λ (hm : Option ℕ). Alike g (run (here g) e (place_way (here g) place (is_atomic_local (local_at (here g) i)) (values.Pointer (To (length (ended_local i (now g vs b)).world.blocks) 0)) w) (now g xs d)) (then_ (expr_nodes (frame g) e (start g) (forms.initialises place hm i (start g) (tree.type_of e) r)) q) (own g o tm d)) (sym k.1)
           (expr_sim g busy e typed scalar xs o d tm (place_way (here g) place (is_atomic_local (local_at (here g) i)) (values.Pointer (To (length (ended_local i (now g vs b)).world.blocks) 0)) w) (start g) (forms.initialises place (Some k.0) i (start g) (tree.type_of e) r) q
           (block_goes g xs o d tm z io w left r q goes place _ i k.0 (length (ended_local i (now g vs b)).world.blocks) (access_of_type (tree.type_of e)) (pointed (frame g) e) k.1 lt is)))
-      some_at place i l e there typed fits scalar false h =
+      some_at place i l e there typed fits scalar inside false h =
           let none = register_none i h in
           register_begins (λ x. run (here g) e (local_way i w) x) place i l (expr_nodes (frame g) e (start g) (forms.initialises place (home (frame g) i) i (start g) (tree.type_of e) r)) there none
           (λ xs a z. subst (λ (hm : Option ℕ). Alike g (run (here g) e (local_way i w) (now g xs b)) (then_ (expr_nodes (frame g) e (start g) (forms.initialises place hm i (start g) (tree.type_of e) r)) q) (own g ob a b)) (sym none)
@@ -208,9 +208,9 @@ module _ (g : Setting) where
           (of_kind g xs ob b a (local_way i w) (start g) (access_of_type l.ty) (access_of_type (tree.type_of e)) (pointed (frame g) e) (forms.initialises place None i (start g) (tree.type_of e) r) q (sym (fits_access (tree.type_of e) l.ty fits))
           (local_goes g xs ob b a z io w left r q goes place i l (pointed (frame g) e) there none))))
 
-      pub declares_some : (place i : ℕ) (l : tree.Local) (e : tree.Expr) → slice_get g.f.locals i ≡ Some l → IsTyped (ctx g.t g.n g.f) e → Fits (tree.type_of e) l.ty → IsScalar (tree.type_of e)
+      pub declares_some : (place i : ℕ) (l : tree.Local) (e : tree.Expr) → slice_get g.f.locals i ≡ Some l → IsTyped (ctx g.t g.n g.f) e → Fits (tree.type_of e) l.ty → IsScalar (tree.type_of e) → IsOpen g i
           → Alike g (declares (here g) place i (Some e) w (now g vs b)) (then_ (declare_nodes (frame g) place i (Some e) r) q) (own g ob tm b)
-      declares_some place i l e there typed fits scalar = some_at place i l e there typed fits scalar (is_block (local_at (here g) i)) refl
+      declares_some place i l e there typed fits scalar inside = some_at place i l e there typed fits scalar inside (is_block (local_at (here g) i)) refl
 
       -- ---- assignments
 

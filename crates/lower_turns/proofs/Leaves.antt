@@ -84,13 +84,13 @@ module _ (g : Setting) where
           let d : ℕ → Held = set_at a u (value v) in
           let under : Below u a d = below_set u u a a (value v) (omega arith) (below_same u a) in
           let low : Below y.first a d = below_less u y.first a d above under in
-          both_went w all (same {a = y} call (agrees_below (homes_from 0 f.locals) y.first (running y) f.locals xs a d c agrees low)
+          both_went w all (same {a = y} call (agrees_below (homes_from 0 f.locals) y.first (running y) y.around f.locals xs a d c agrees low)
           (at_gives v kind (set_here a u (value v)) above busy (at_again place found (use_below g.t n f c a d y k u how found r q at under))) callers)
       wanted_lands how place cs cs' busy call above agrees at callers _ _ _ without_value =
           let d : ℕ → Held = set_at a u code.missing in
           let under : Below u a d = below_set u u a a code.missing (omega arith) (below_same u a) in
           let low : Below y.first a d = below_less u y.first a d above under in
-          both_went w all (same {a = y} call (agrees_below (homes_from 0 f.locals) y.first (running y) f.locals xs a d c agrees low) (at_lacks place (set_here a u code.missing)) callers)
+          both_went w all (same {a = y} call (agrees_below (homes_from 0 f.locals) y.first (running y) y.around f.locals xs a d c agrees low) (at_lacks place (set_here a u code.missing)) callers)
 
     -- back in the caller, or at the end of the thread
     returns_at : (temp : Option ℕ) (v : Option Value) (m : ℕ) (cs : List Caller) (cs' : List (Point Position Own)) → m ≡ g.n → Callers g.t m cs cs'
@@ -187,12 +187,14 @@ module _ (g : Setting) where
         (subst (λ z. ReturnsAs (access_of_type g.f.result) z (Some 0) (set_at tm 0 (value v) 0)) (sym (result_at true e)) (subst (ReturnsAs (access_of_type g.f.result) (Some v) (Some 0)) (sym (set_here tm 0 (value v))) (with_value v 0 kind))))
 
   -- at the end of the body
-  pub leave_goes : g.a ≡ outermost g.f → GoesS g in_function (leave_way (here g)) [] (last_nodes (g.n == g.t.main) (registers_of g.f)) done
+  pub leave_goes : g.a ≡ outermost g.t.structs g.f → GoesS g in_function (leave_way (here g)) [] (last_nodes (g.n == g.t.main) (registers_of g.f)) done
   leave_goes e = record {
     at = subst (λ (y : Around). AtS g.t g.n g.f y in_function source.leaves [] (last_nodes (g.n == g.t.main) (registers_of g.f)) done) (sym e) at_leaves;
     end = λ vs b tm ob agrees. last_at vs tm ob b agrees (g.n == g.t.main) (registers_of g.f) refl refl;
     breaks = λ z. absurd cc;
     continues = λ z. absurd cc;
+    over_breaks = λ z. absurd cc;
+    over_nexts = λ z. absurd cc;
   }
 
   -- a value is returned, or none

@@ -15,7 +15,7 @@ use Rattle.block_store.specs.Blocks.{Blocks}
 use Rattle.block_store.specs.Runs as runs
 use Rattle.block_store.specs.Runs.{Turn}
 use Rattle.c_tree.specs.Typed as tree
-use Rattle.c_tree.specs.TypedForm.{Jumps, in_function, in_loop, IsScalar, IfTyped, IsWell, AreWell}
+use Rattle.c_tree.specs.TypedForm.{Jumps, in_function, IsScalar, IfTyped, IsWell, AreWell}
 use Rattle.c_meaning.specs.Values.{access_of_type}
 use Rattle.c_meaning.specs.Control.{Variable, Control, Loop}
 use Rattle.c_meaning.specs.Turns.{Way, plainly, run_stmt, run_row, row_way, if_way, step_way, body_way, loop_test_way, loop_way, rounds, rounds_if, round_over}
@@ -25,17 +25,19 @@ use Rattle.struct_ir.specs.Structured as position
 use Rattle.struct_ir.specs.Structured.{Position, then_}
 use Rattle.struct_ir.specs.Threads as threads
 use Rattle.struct_ir.specs.Threads.{Thread, if_fits}
-use Rattle.struct_ir.specs.meaning.Blocks.{Held, number, Own, Fault, set_at, known, on_value, way_of}
+use Rattle.struct_ir.specs.meaning.Blocks.{Held, number, Own, object_ended, Fault, set_at, known, on_value, way_of}
 use Rattle.struct_ir.specs.meaning.Threads.{is_plain, turned}
 use Rattle.lower_forms.specs.Counts.{count, greatest_row, count_if}
-use Rattle.lower_forms.specs.Forms.{Reach, branches, pointed, stmt_place, guarded, break_nodes, test_nodes, stmt_nodes, row_nodes}
+use Rattle.lower_forms.specs.Forms.{Reach, looped, held, fresh, breaks_in, nexts_in, over_break, over_next, branches, pointed, stmt_place, guarded, break_nodes, test_nodes, stmt_nodes, row_nodes}
 use Rattle.lower_forms.specs.Programs.{lowered}
-use Rattle.lower_turns.proofs.Relation.{ctx, inside, InRegister, held_in, with_flag, Holds, in_step, Free, LoopIs, body_nodes, latch_nodes, at_row, at_loop, at_body, at_step, at_if, at_loop_test, Together, both_went, both_unfit, same, at_round}
+use Rattle.lower_turns.proofs.Relation.{ctx, inside, InRegister, held_in, with_flag, Holds, in_step, Free, LoopIs, RoomOf, RoomRow, jumps_of, body_nodes, latch_nodes, loop_behind, at_row, at_loop, at_body, at_step, at_if, at_loop_test, Together, both_went, both_unfit, same, at_round}
 use Rattle.lower_turns.proofs.Steps.{onward, set_then, test_true, test_false, enters_loop, breaks_out, body_over, then_same, branch, stops_at}
-use Rattle.lower_turns.proofs.Setting.{Stands, Leaves, looped_in, row_ends, objects_over, Setting, here, now, own, Alike, frame, start, agrees_on, GoesE, GoesS, inner_row}
+use Rattle.lower_turns.proofs.Setting.{Stands, Leaves, body_in, step_in, row_ends, objects_over, Setting, here, now, own, Alike, frame, start, agrees_on, GoesE, GoesS, inner_row}
 use Rattle.lower_turns.proofs.Exprs.{expr_sim}
 use Rattle.lower_turns.proofs.Registers.{set_here, set_there, holds_below}
-use Rattle.lower_turns.proofs.Ends.{ends_then}
+use Rattle.lower_turns.proofs.Ends.{ends_then, none_left}
+use Rattle.lower_turns.proofs.Over.{ends_forgive}
+use Rattle.lower_turns.proofs.Rooms.{among_if, apart_if}
 
 pub one_or_more : (e : tree.Expr) → 0 < count e
 one_or_more (tree.at place ty node) = omega arith
@@ -144,6 +146,7 @@ module _ (g : Setting) where
             let far : j ≢ i = λ z. absurd (omega (arith, z, clear.0, slice_get_within g.f.locals j k there)) in
             subst (InRegister (access_of_type k.ty) (held_in vs j)) (sym (set_there tm i (number (num int (pos 0))) j far)) (stands.register j k there none);
         block = stands.block;
+        closed = stands.closed;
       }))
 
   -- a break
@@ -152,22 +155,24 @@ module _ (g : Setting) where
   break_alike io w left r q goes e place = break_at place w left r q g.a.flag refl (goes.breaks e)
 
   -- behind a statement of a row
-  pub row_goes : (io : Jumps) (w : Way) (left : List ℕ) (r : Nodes) (q : Position) → GoesS g io w left r q → (rest : tree.Stmts) → AreWell (inside g.t g.n g.f) io rest → Free g.t (greatest_row rest) → SimRow g io rest
+  pub row_goes : (io : Jumps) (w : Way) (left : List ℕ) (r : Nodes) (q : Position) → GoesS g io w left r q → (rest : tree.Stmts) → AreWell (inside g.t g.n g.f) io rest → RoomRow g.t g.n g.f g.a rest → Free g.t (greatest_row rest) → SimRow g io rest
       → GoesS g io (row_way rest (run_row (here g) rest) w) left (row_nodes (frame g) rest left r) q
-  row_goes io w left r q goes rest well free sim = record {
-    at = at_row rest well free goes.at;
+  row_goes io w left r q goes rest well room free sim = record {
+    at = at_row rest well room free goes.at;
     end = λ vs b tm ob h. sim w left r q goes vs b tm ob h;
     breaks = λ e. row_leaves rest w left r q g.a.flag refl (goes.breaks e);
     continues = goes.continues;
+    over_breaks = goes.over_breaks;
+    over_nexts = goes.over_nexts;
   }
 
   -- a branch
-  pub if_goes : (io : Jumps) (w : Way) (left : List ℕ) (r : Nodes) (q : Position) → GoesS g io w left r q → (place : ℕ) (one other : tree.Stmt) → IsWell (inside g.t g.n g.f) io one → IsWell (inside g.t g.n g.f) io other
+  pub if_goes : (io : Jumps) (w : Way) (left : List ℕ) (r : Nodes) (q : Position) → GoesS g io w left r q → (place : ℕ) (one other : tree.Stmt) → IsWell (inside g.t g.n g.f) io one → IsWell (inside g.t g.n g.f) io other → RoomOf g.t g.n g.f g.a one → RoomOf g.t g.n g.f g.a other
       → SimS g io one → SimS g io other → (vs : List Variable) (ob : ℕ → Option ℕ) (b : Blocks) (tm : ℕ → Held) → Stands g vs tm ob → (lh : Access) (rch : Reach)
       → GoesE g vs ob b tm (if_way place one other (run_stmt (here g) one) (run_stmt (here g) other) w) (start g) lh rch
       (branches place (start g) (stmt_nodes (frame g) one left no_nodes) (stmt_nodes (frame g) other left no_nodes) r) q
-  if_goes io w left r q goes place one other w1 w2 sim1 sim2 vs ob b tm agrees lh rch = record {
-    at = at_if place one other lh rch w1 w2 goes.at;
+  if_goes io w left r q goes place one other w1 w2 m1 m2 sim1 sim2 vs ob b tm agrees lh rch = record {
+    at = at_if place one other lh rch w1 w2 m1 m2 goes.at;
     above = omega arith;
     agrees = agrees;
     go = λ v a kind below is points.
@@ -183,74 +188,98 @@ module _ (g : Setting) where
   plainly_alike answers.Got x y w h = both_unfit
   plainly_alike answers.None x y w h = both_unfit
 
-  module _ (io : Jumps) (w : Way) (left : List ℕ) (r : Nodes) (q : Position) (goes : GoesS g io w left r q) (l : Loop) (is : LoopIs g.t g.n g.f l) where
+  module _ (io : Jumps) (w : Way) (left : List ℕ) (r : Nodes) (q : Position) (goes : GoesS g io w left r q) (l : Loop) (is : LoopIs g.t g.n g.f l) (site : ℕ) where
     abbrev body_row : Nodes
     body_row = body_nodes g.t g.n g.f g.a l
 
     abbrev latch_row : Nodes
-    latch_row = latch_nodes g.t g.n g.f g.a l
+    latch_row = latch_nodes g.t g.n g.f g.a site l
+
+    abbrev step_row : Nodes
+    step_row = stmt_nodes (looped (frame g)) l.step [] no_nodes
+
+    abbrev behind_row : Nodes
+    behind_row = loop_behind g.t g.n g.f g.a site l r
 
     abbrev latch : Position
-    latch = position.in_latch (body_nodes g.t g.n g.f g.a l) (latch_nodes g.t g.n g.f g.a l) (then_ r q)
+    latch = position.in_latch (body_nodes g.t g.n g.f g.a l) (latch_nodes g.t g.n g.f g.a site l) (then_ (loop_behind g.t g.n g.f g.a site l r) q)
 
     abbrev body : Position
-    body = position.in_body (body_nodes g.t g.n g.f g.a l) (latch_nodes g.t g.n g.f g.a l) (then_ r q)
+    body = position.in_body (body_nodes g.t g.n g.f g.a l) (latch_nodes g.t g.n g.f g.a site l) (then_ (loop_behind g.t g.n g.f g.a site l r) q)
+
+    -- out of the loop, where none of its objects has a block
+    left_alike : (vs : List Variable) (b : Blocks) (tm : ℕ → Held) (ob : ℕ → Option ℕ) → Stands g vs tm ob → Alike g (w.end (now g vs b)) (then_ behind_row q) (own g ob tm b)
+    left_alike vs b tm ob h =
+        none_left g vs b tm ob h site (over_break (looped (frame g)) l.body) (λ k e. apart_if (breaks_in l.body) g.a.around (held (looped (frame g)) l.body) k e) (w.end (now g vs b)) r q (goes.end vs b tm ob h)
 
     -- a round is over
     over_alike : (vs : List Variable) (b : Blocks) (tm : ℕ → Held) (ob : ℕ → Option ℕ) → Stands g vs tm ob → Alike g (round_over (here g) l w.k (now g vs b)) (then_ no_nodes latch) (own g ob tm b)
     over_alike vs b tm ob h =
         row_ends g (round_over (here g) l w.k (now g vs b)) latch (own g ob tm b)
         (subst (Together g.t (round_over (here g) l w.k (now g vs b))) (sym (stops_at (lowered g.t) g.thread g.answer g.cs' g.s latch (own g ob tm b) refl))
-        (plainly_alike g.answer _ _ (actions.with_blocks g.s b) (both_went (actions.with_blocks g.s b) g.begun (same g.call h (at_round l is goes.at) g.callers))))
+        (plainly_alike g.answer _ _ (actions.with_blocks g.s b) (both_went (actions.with_blocks g.s b) g.begun (same g.call h (at_round site l is goes.at) g.callers))))
 
-    pub step_goes : GoesS (looped_in g) in_step (step_way (here g) l w) [] no_nodes latch
-    step_goes = record { at = at_step l is goes.at; end = over_alike; breaks = λ e vs b tm ob h. goes.end vs b tm ob h; continues = λ e. absurd cc }
+    pub step_goes : GoesS (step_in g) in_step (step_way (here g) l w) [] no_nodes latch
+    step_goes = record {
+      at = at_step site l is goes.at;
+      end = over_alike;
+      breaks = λ e vs b tm ob h. left_alike vs b tm ob h;
+      continues = λ e. absurd cc;
+      over_breaks = λ e none k h. absurd cc;
+      over_nexts = λ e. absurd cc;
+    }
 
-    module _ (sim_step : SimS (looped_in g) in_step l.step) where
+    module _ (sim_step : SimS (step_in g) in_step l.step) where
       step_alike' : (vs : List Variable) (b : Blocks) (tm : ℕ → Held) (ob : ℕ → Option ℕ) → Stands g vs tm ob
           → Alike g (run_stmt (here g) l.step (step_way (here g) l w) (now g vs b)) body (own g ob tm b)
       step_alike' vs b tm ob h =
-          stepped (run_stmt (here g) l.step (step_way (here g) l w) (now g vs b)) body (then_ latch_row latch) (own g ob tm b) (own g ob tm b) (body_over (lowered g.t) g.thread g.answer g.cs' g.s body_row latch_row (then_ r q) (own g ob tm b))
-          (sim_step (step_way (here g) l w) [] no_nodes latch step_goes vs b tm ob h)
+          stepped (run_stmt (here g) l.step (step_way (here g) l w) (now g vs b)) body (then_ latch_row latch) (own g ob tm b) (own g ob tm b) (body_over (lowered g.t) g.thread g.answer g.cs' g.s body_row latch_row (then_ behind_row q) (own g ob tm b))
+          (none_left g vs b tm ob h site (over_next (looped (frame g)) l.body) (λ k e. apart_if (nexts_in l.body) g.a.around (held (looped (frame g)) l.body) k e)
+          (run_stmt (here g) l.step (step_way (here g) l w) (now g vs b)) step_row latch (sim_step (step_way (here g) l w) [] no_nodes latch step_goes vs b tm ob h))
 
-      pub body_goes : GoesS (looped_in g) in_loop (body_way (here g) l (run_stmt (here g) l.step) w) [] no_nodes body
+      pub body_goes : GoesS (body_in g l) (jumps_of g.t g.n g.f l.body) (body_way (here g) l (run_stmt (here g) l.step) w) [] no_nodes body
       body_goes = record {
-        at = at_body l is goes.at;
+        at = at_body site l is goes.at;
         end = λ vs b tm ob h. row_ends g (run_stmt (here g) l.step (step_way (here g) l w) (now g vs b)) body (own g ob tm b) (step_alike' vs b tm ob h);
-        breaks = λ e vs b tm ob h. goes.end vs b tm ob h;
+        breaks = λ e vs b tm ob h. left_alike vs b tm ob h;
         continues = λ e vs b tm ob h. step_alike' vs b tm ob h;
+        over_breaks = λ e none k h. ends_forgive (lowered g.t) g.thread g.answer g.cs' g.s site (over_break (looped (frame g)) l.body) r q k (among_if (breaks_in l.body) (fresh g.a.around (held (looped (frame g)) l.body)) k e h);
+        over_nexts = λ e k h m.
+            body_over (lowered g.t) g.thread g.answer g.cs' g.s body_row latch_row (then_ behind_row q) (object_ended m k)
+            ∙ ends_forgive (lowered g.t) g.thread g.answer g.cs' g.s site (over_next (looped (frame g)) l.body) step_row latch k (among_if (nexts_in l.body) (fresh g.a.around (held (looped (frame g)) l.body)) k e h) m
+            ∙ sym (body_over (lowered g.t) g.thread g.answer g.cs' g.s body_row latch_row (then_ behind_row q) m);
       }
 
-      module _ (sim_body : SimS (looped_in g) in_loop l.body) where
+      module _ (sim_body : SimS (body_in g l) (jumps_of g.t g.n g.f l.body) l.body) where
         body_alike : (vs : List Variable) (b : Blocks) (tm : ℕ → Held) (ob : ℕ → Option ℕ) → Stands g vs tm ob
-            → Alike g (run_stmt (here g) l.body (body_way (here g) l (run_stmt (here g) l.step) w) (now g vs b)) (then_ (stmt_nodes (frame (looped_in g)) l.body [] no_nodes) body) (own g ob tm b)
+            → Alike g (run_stmt (here g) l.body (body_way (here g) l (run_stmt (here g) l.step) w) (now g vs b)) (then_ (stmt_nodes (frame (body_in g l)) l.body [] no_nodes) body) (own g ob tm b)
         body_alike vs b tm ob h = sim_body (body_way (here g) l (run_stmt (here g) l.step) w) [] no_nodes body body_goes vs b tm ob h
 
         pub test_goes : (vs : List Variable) (ob : ℕ → Option ℕ) (b : Blocks) (tm : ℕ → Held) → Stands g vs tm ob → (place : ℕ) (lh : Access) (rch : Reach)
-            → GoesE (looped_in g) vs ob b tm (loop_test_way (here g) place l (run_stmt (here g) l.body) (run_stmt (here g) l.step) w) (start g) lh rch
-            (branches place (start g) no_nodes (more_nodes (ir.break_ place) no_nodes) (stmt_nodes (frame (looped_in g)) l.body [] no_nodes)) body
+            → GoesE (body_in g l) vs ob b tm (loop_test_way (here g) place l (run_stmt (here g) l.body) (run_stmt (here g) l.step) w) (start g) lh rch
+            (branches place (start g) no_nodes (more_nodes (ir.break_ place) no_nodes) (stmt_nodes (frame (body_in g l)) l.body [] no_nodes)) body
         test_goes vs ob b tm agrees place lh rch = record {
-          at = at_loop_test place l lh rch is goes.at;
+          at = at_loop_test place site l lh rch is goes.at;
           above = omega arith;
           agrees = agrees;
           go = λ v a kind below e points.
               let h = agrees_on g vs tm a ob (start g) (omega arith) agrees below in
-              let rest : Position = then_ (stmt_nodes (frame (looped_in g)) l.body [] no_nodes) body in
+              let rest : Position = then_ (stmt_nodes (frame (body_in g l)) l.body [] no_nodes) body in
               branch (lowered g.t) g.thread g.answer g.cs' g.s g.t
               (λ c. if c then run_stmt (here g) l.body (body_way (here g) l (run_stmt (here g) l.step) w) (now g vs b) else w.end (now g vs b)) place (start g)
-              no_nodes (more_nodes (ir.break_ place) no_nodes) (stmt_nodes (frame (looped_in g)) l.body [] no_nodes) body (own g ob a b) v e
+              no_nodes (more_nodes (ir.break_ place) no_nodes) (stmt_nodes (frame (body_in g l)) l.body [] no_nodes) body (own g ob a b) v e
               (row_ends g (run_stmt (here g) l.body (body_way (here g) l (run_stmt (here g) l.step) w) (now g vs b)) rest (own g ob a b) (body_alike vs b a ob h))
-              (stepped (w.end (now g vs b)) (then_ (more_nodes (ir.break_ place) no_nodes) rest) (then_ r q) (own g ob a b) (own g ob a b)
-              (breaks_out (lowered g.t) g.thread g.answer g.cs' g.s place no_nodes rest (own g ob a b)) (goes.end vs b a ob h));
+              (stepped (w.end (now g vs b)) (then_ (more_nodes (ir.break_ place) no_nodes) rest) (then_ behind_row q) (own g ob a b) (own g ob a b)
+              (breaks_out (lowered g.t) g.thread g.answer g.cs' g.s place no_nodes rest (own g ob a b)) (left_alike vs b a ob h));
         }
 
         rounds_alike : (vs : List Variable) (b : Blocks) (tm : ℕ → Held) (ob : ℕ → Option ℕ) → Stands g vs tm ob → (o : Option tree.Expr) → IfTyped (ctx g.t g.n g.f) IsScalar o → Free g.t (count_if o)
-            → Alike g (rounds_if (here g) l (run_stmt (here g) l.body) (run_stmt (here g) l.step) w o (now g vs b)) (then_ (test_nodes (frame (looped_in g)) o (stmt_nodes (frame (looped_in g)) l.body [] no_nodes)) body) (own g ob tm b)
+            → Alike g (rounds_if (here g) l (run_stmt (here g) l.body) (run_stmt (here g) l.step) w o (now g vs b)) (then_ (test_nodes (frame (body_in g l)) o (stmt_nodes (frame (body_in g l)) l.body [] no_nodes)) body) (own g ob tm b)
         rounds_alike vs b tm ob h None typed free = body_alike vs b tm ob h
         rounds_alike vs b tm ob h (Some e) typed free =
-            expr_sim (looped_in g) (free (one_or_more e)) e typed.0 typed.1 vs ob b tm (loop_test_way (here g) (tree.place_of e) l (run_stmt (here g) l.body) (run_stmt (here g) l.step) w) (start g)
-            (branches (tree.place_of e) (start g) no_nodes (more_nodes (ir.break_ (tree.place_of e)) no_nodes) (stmt_nodes (frame (looped_in g)) l.body [] no_nodes)) body
-            (test_goes vs ob b tm h (tree.place_of e) (access_of_type (tree.type_of e)) (pointed (frame (looped_in g)) e))
+            expr_sim (body_in g l) (free (one_or_more e)) e typed.0 typed.1 vs ob b tm (loop_test_way (here g) (tree.place_of e) l (run_stmt (here g) l.body) (run_stmt (here g) l.step) w) (start g)
+            (branches (tree.place_of e) (start g) no_nodes (more_nodes (ir.break_ (tree.place_of e)) no_nodes) (stmt_nodes (frame (body_in g l)) l.body [] no_nodes)) body
+            (test_goes vs ob b tm h (tree.place_of e) (access_of_type (tree.type_of e)) (pointed (frame (body_in g l)) e))
 
         -- a round
         pub loop_alike : (vs : List Variable) (b : Blocks) (tm : ℕ → Held) (ob : ℕ → Option ℕ) → Stands g vs tm ob
@@ -258,12 +287,19 @@ module _ (g : Setting) where
         loop_alike vs b tm ob h = rounds_alike vs b tm ob h l.condition is.condition is.free_condition
 
         -- a loop
-        pub enters_alike : (place : ℕ) (vs : List Variable) (b : Blocks) (tm : ℕ → Held) (ob : ℕ → Option ℕ) → Stands g vs tm ob
-            → Alike g (rounds (here g) l (run_stmt (here g) l.body) (run_stmt (here g) l.step) w (now g vs b)) (then_ (more_nodes (ir.loop place body_row latch_row) r) q) (own g ob tm b)
-        enters_alike place vs b tm ob h =
-            stepped (rounds (here g) l (run_stmt (here g) l.body) (run_stmt (here g) l.step) w (now g vs b)) (then_ (more_nodes (ir.loop place body_row latch_row) r) q) (then_ body_row body) (own g ob tm b) (own g ob tm b)
-            (enters_loop (lowered g.t) g.thread g.answer g.cs' g.s place body_row latch_row r q (own g ob tm b)) (loop_alike vs b tm ob h)
+        pub enters_alike : (vs : List Variable) (b : Blocks) (tm : ℕ → Held) (ob : ℕ → Option ℕ) → Stands g vs tm ob
+            → Alike g (rounds (here g) l (run_stmt (here g) l.body) (run_stmt (here g) l.step) w (now g vs b)) (then_ (more_nodes (ir.loop site body_row latch_row) behind_row) q) (own g ob tm b)
+        enters_alike vs b tm ob h =
+            stepped (rounds (here g) l (run_stmt (here g) l.body) (run_stmt (here g) l.step) w (now g vs b)) (then_ (more_nodes (ir.loop site body_row latch_row) behind_row) q) (then_ body_row body) (own g ob tm b) (own g ob tm b)
+            (enters_loop (lowered g.t) g.thread g.answer g.cs' g.s site body_row latch_row behind_row q (own g ob tm b)) (loop_alike vs b tm ob h)
 
         -- behind the first clause of a for
-        pub loop_goes : (place : ℕ) (around : List ℕ) → GoesS g in_function (loop_way (here g) l (run_stmt (here g) l.body) (run_stmt (here g) l.step) w) around (more_nodes (ir.loop place body_row latch_row) r) q
-        loop_goes place around = record { at = at_loop place around l is goes.at; end = enters_alike place; breaks = λ e. absurd cc; continues = λ e. absurd cc }
+        pub loop_goes : (around : List ℕ) → GoesS g in_function (loop_way (here g) l (run_stmt (here g) l.body) (run_stmt (here g) l.step) w) around (more_nodes (ir.loop site body_row latch_row) behind_row) q
+        loop_goes around = record {
+          at = at_loop site around l is goes.at;
+          end = enters_alike;
+          breaks = λ e. absurd cc;
+          continues = λ e. absurd cc;
+          over_breaks = λ e. absurd cc;
+          over_nexts = λ e. absurd cc;
+        }

@@ -12,7 +12,7 @@ use Rattle.c_meaning.specs.Control.{Variable}
 use Rattle.c_meaning.specs.Turns.{Now, ended_if, ended_local, variable_or_unset}
 use Rattle.struct_ir.specs.Nodes.{StackObject}
 use Rattle.struct_ir.specs.meaning.Blocks.{Held, Own, set_at, without, object_ended}
-use Rattle.lower_forms.specs.Forms.{home, home_or_none}
+use Rattle.lower_forms.specs.Forms.{home, home_or_none, among}
 use Rattle.lower_forms.specs.Programs.{home_if, next_home, homes_from, object_of, with_object, objects_of}
 use Rattle.lower_turns.proofs.Relation.{InRegister, no_value, one_value, InBlock, no_block, one_block, held_in, running}
 use Rattle.lower_turns.proofs.Registers.{holds_but, set_here, set_there}
@@ -124,6 +124,7 @@ module _ (g : Setting) (vs : List Variable) (tm : ℕ → Held) (ob : ℕ → Op
         (subst (InRegister (access_of_type k.ty) (held_in vs j)) (sym (others j (below_start j k e) ne)) (agrees.register j k e h)));
     block = λ j k h. by_same j i (λ e. absurd (let c : Some k ≡ None = sym h ∙ ap (home (frame g)) e ∙ none in cc))
         (λ ne. subst (λ y. InBlock y (ob k)) (sym (held_there vs i j x ne)) (agrees.block j k h));
+    closed = agrees.closed;
   }
     where
       below_start : (j : ℕ) (k : tree.Local) → slice_get g.f.locals j ≡ Some k → j < start g
@@ -143,14 +144,15 @@ module _ (g : Setting) (vs : List Variable) (tm : ℕ → Held) (ob : ℕ → Op
 
   -- a local with a stack object
   pub agrees_block : (i k : ℕ) → home (frame g) i ≡ Some k → (xs : List Variable) (c : ℕ → Option ℕ) → length xs ≡ length vs → ((j : ℕ) → j ≢ i → held_in xs j ≡ held_in vs j) → ((m : ℕ) → m ≢ k → c m ≡ ob m)
-      → InBlock (held_in xs i) (c k) → Stands g xs tm c
-  agrees_block i k has xs c long others objects is = record {
+      → InBlock (held_in xs i) (c k) → (among g.a.around k ≡ false → c k ≡ None) → Stands g xs tm c
+  agrees_block i k has xs c long others objects is shut = record {
     count = long ∙ agrees.count;
     low = agrees.low;
     switches = agrees.switches;
     register = λ j l e h. by_same j i (λ same_number. absurd (let x : None ≡ Some k = sym h ∙ ap (home (frame g)) same_number ∙ has in cc))
         (λ ne. subst (λ y. InRegister (access_of_type l.ty) y (tm j)) (sym (others j ne)) (agrees.register j l e h));
     block = λ j m h. by_same j i (here_is j m h) (λ ne. elsewhere j m h ne);
+    closed = λ m e. by_same m k (λ s. subst (λ z. among g.a.around z ≡ false → c z ≡ None) (sym s) shut e) (λ ne. objects m ne ∙ agrees.closed m e);
   }
     where
       here_is : (j m : ℕ) → home (frame g) j ≡ Some m → j ≡ i → InBlock (held_in xs j) (c m)
@@ -172,6 +174,7 @@ module _ (g : Setting) (vs : List Variable) (tm : ℕ → Held) (ob : ℕ → Op
     register = λ j l e none. let ne : j ≢ i = λ z. absurd (let c : None ≡ Some k = sym none ∙ ap (home (frame g)) z ∙ has in cc) in
         subst (InRegister (access_of_type l.ty) (held_in vs j)) (sym (set_there tm i h j ne)) (agrees.register j l e none);
     block = agrees.block;
+    closed = agrees.closed;
   }
 
   -- ---- a block ends
@@ -187,7 +190,7 @@ module _ (g : Setting) (vs : List Variable) (tm : ℕ → Held) (ob : ℕ → Op
     ob' = set_at ob k None;
     source_is = refl;
     code_is = refl;
-    agrees' = agrees_block i k has vs (set_at ob k None) refl (λ j ne. refl) (λ m ne. set_there ob k None m ne) (subst (λ y. InBlock y (set_at ob k None k)) (sym e) (subst (InBlock source.unset) (sym (set_here ob k None)) no_block));
+    agrees' = agrees_block i k has vs (set_at ob k None) refl (λ j ne. refl) (λ m ne. set_there ob k None m ne) (subst (λ y. InBlock y (set_at ob k None k)) (sym e) (subst (InBlock source.unset) (sym (set_here ob k None)) no_block)) (λ z. set_here ob k None);
   }
   end_block b i k has _ _ (one_block c) e h = record {
     vs' = set vs i source.unset;
@@ -196,7 +199,7 @@ module _ (g : Setting) (vs : List Variable) (tm : ℕ → Held) (ob : ℕ → Op
     source_is = refl;
     code_is = refl;
     agrees' = agrees_block i k has (set vs i source.unset) (set_at ob k None) (length-set vs i source.unset) (λ j ne. held_there vs i j source.unset ne) (λ m ne. set_there ob k None m ne)
-        (subst (λ y. InBlock y (set_at ob k None k)) (sym (held_here vs i source.unset (within_locals i k has))) (subst (InBlock source.unset) (sym (set_here ob k None)) no_block));
+        (subst (λ y. InBlock y (set_at ob k None k)) (sym (held_here vs i source.unset (within_locals i k has))) (subst (InBlock source.unset) (sym (set_here ob k None)) no_block)) (λ z. set_here ob k None);
   }
 
   pub end_one : (b : Blocks) (i k : ℕ) → home (frame g) i ≡ Some k → Over g tm (ended_local i (now g vs b)) (object_ended (own g ob tm b) k)

@@ -99,9 +99,9 @@ module _ (t : tree.Typed) (n : ℕ) (f : tree.Func) (ob : ℕ → Option ℕ) (a
   use_below c _ _ _ _ _ _ (at_update_read place x right op to by via rch h scalar can kind e at) g =
       at_update_read place x right op to by via rch (reaches_below a b via _ to h (below_less _ _ a b (omega arith) g)) scalar can kind (g (behind via _) (omega arith) ∙ e) at
   use_below _ _ _ _ _ _ _ (at_update_local place i l x right op rch e h same scalar can at) g = at_update_local place i l x right op rch e h same scalar can at
-  use_below _ _ _ _ _ _ _ (at_if place one other lh rch w1 w2 at) g = at_if place one other lh rch w1 w2 at
-  use_below _ _ _ _ _ _ _ (at_loop_test place l lh rch is at) g = at_loop_test place l lh rch is at
-  use_below _ _ _ _ _ _ _ (at_switch_test place labels body s rch all few well free at) g = at_switch_test place labels body s rch all few well free at
+  use_below _ _ _ _ _ _ _ (at_if place one other lh rch w1 w2 m1 m2 at) g = at_if place one other lh rch w1 w2 m1 m2 at
+  use_below _ _ _ _ _ _ _ (at_loop_test place site l lh rch is at) g = at_loop_test place site l lh rch is at
+  use_below _ _ _ _ _ _ _ (at_switch_test place labels body s rch all few well room free at) g = at_switch_test place labels body s rch all few well room free at
   use_below _ _ _ _ _ _ _ (at_caller place rch) g = at_caller place rch
   use_below _ _ _ _ _ _ _ (at_nowhere how rch at) g = at_nowhere how rch at
   use_below _ _ _ _ _ _ _ (at_inside at) g = at_inside (use_below _ _ _ _ _ _ _ at g)
@@ -123,8 +123,8 @@ holds_but low high i a b (x ∷ xs) lt h g =
     (h.0, h.1, g x.0 h.1 ne ∙ h.2, holds_but low x.0 i a b xs lt h.3 (λ j jlt jne. g j (omega (arith, jlt, h.1)) jne))
 
 -- locals agree while no register below the free ones changes
-pub agrees_below : (homes : List (Option ℕ)) (first : ℕ) (held : List (ℕ × ℕ)) (ls : List tree.Local) (vs : List Variable) (a b : ℕ → Held) (ob : ℕ → Option ℕ) → Agrees homes first held ls vs a ob → Below first a b → Agrees homes first held ls vs b ob
-agrees_below homes first held ls vs a b ob h g =
+pub agrees_below : (homes : List (Option ℕ)) (first : ℕ) (held : List (ℕ × ℕ)) (around : List ℕ) (ls : List tree.Local) (vs : List Variable) (a b : ℕ → Held) (ob : ℕ → Option ℕ) → Agrees homes first held around ls vs a ob → Below first a b → Agrees homes first held around ls vs b ob
+agrees_below homes first held around ls vs a b ob h g =
     let low = h.low in
     record {
       count = h.count;
@@ -132,4 +132,5 @@ agrees_below homes first held ls vs a b ob h g =
       switches = holds_below (length ls) first a b held h.switches g;
       register = λ i l e none. subst (InRegister (access_of_type l.ty) (held_in vs i)) (sym (g i (omega (arith, slice_get_within ls i l e, low)))) (h.register i l e none);
       block = h.block;
+      closed = h.closed;
     }

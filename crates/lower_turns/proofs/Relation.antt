@@ -13,14 +13,14 @@ use Rattle.block_store.specs.declared.values.Ptr.TheVariants.{To}
 use Rattle.block_store.specs.declared.values.Value.{Value}
 use Rattle.block_store.specs.declared.values.Value.TheVariants as values
 use Rattle.c_tree.specs.Typed as tree
-use Rattle.c_tree.specs.TypedForm.{Jumps, in_function, in_loop, in_switch, IsLabel, stmts_count, IsScalar, IsNth, CanUpdate, CanStart, signature_of, InScope, Inside, IsTyped, AreTyped, IfTyped, AreArguments, IsLibCall, IsWell, AreWell, context_of}
+use Rattle.c_tree.specs.TypedForm.{Jumps, in_function, in_switch, IsLabel, stmts_count, IsScalar, IsNth, CanUpdate, CanStart, signature_of, InScope, Inside, IsTyped, AreTyped, IfTyped, AreArguments, IsLibCall, IsWell, AreWell, context_of}
 use Rattle.c_tree.specs.TypedLayout.{size_in}
 use Rattle.race_rules.specs.declared.touch.Touch.{Touch}
 use Rattle.c_meaning.specs.Values.{Binary, converts, negates, tests, selects, on_numbers, forward, backward, distance, on_pointers, access_of_type}
 use Rattle.c_meaning.specs.Control as source
 use Rattle.c_meaning.specs.Control.{Variable, Loop, Callee, function, library, Todo, Use, wanted, dropped, Caller, Control}
 use Rattle.c_meaning.specs.Switches.{default_from, starts_at}
-use Rattle.c_meaning.specs.Turns.{update_of, variable_or_unset}
+use Rattle.c_meaning.specs.Turns.{update_of, variable_or_unset, declared, declared_by}
 use Rattle.struct_ir.specs.Nodes as ir
 use Rattle.struct_ir.specs.Nodes.{Calc, Nodes, no_nodes, more_nodes}
 use Rattle.block_store.specs.Actions as actions
@@ -40,8 +40,8 @@ use Rattle.struct_ir.specs.meaning.Blocks.{Held, Own, value, number, pointer, ta
 use Rattle.struct_ir.specs.meaning.Threads.{further, moved_if}
 use Rattle.lower_forms.specs.Counts.{greatest, greatest_row, count_if}
 use Rattle.lower_forms.specs.Forms as forms
-use Rattle.lower_forms.specs.Forms.{Frame, home, home_or_none, sets, acts, branches, sets_int, sets_truth, Reach, found, direct, indexed, reached, behind, at_temp, member_reach, reach, member_nodes, temps_of, lib_nodes, expr_nodes, place_nodes, args_nodes, ends, with_home, sized_copy, computes, update_by, test_nodes, choose_nodes, stmt_nodes, row_nodes, switch_nodes}
-use Rattle.lower_forms.specs.Programs.{homes_from, registers_of, last_nodes}
+use Rattle.lower_forms.specs.Forms.{Frame, home, home_or_none, looped, held, among, again, fresh, breaks_in, nexts_in, over_break, over_next, sets, acts, branches, sets_int, sets_truth, Reach, found, direct, indexed, reached, behind, at_temp, member_reach, reach, member_nodes, temps_of, lib_nodes, expr_nodes, place_nodes, args_nodes, ends, with_home, sized_copy, computes, update_by, test_nodes, choose_nodes, stmt_nodes, row_nodes, switch_nodes}
+use Rattle.lower_forms.specs.Programs.{homes_from, body_frame, registers_of, last_nodes}
 
 -- ---- values and registers
 
@@ -105,12 +105,22 @@ held_in vs i = variable_or_unset (slice_get vs i)
 
 -- ---- where a statement stands
 
+-- the stack objects of these locals
+abbrev pub homes_of : List (Option ℕ) → List ℕ → List ℕ
+homes_of homes [] = []
+homes_of homes (i ∷ is) = with_home (home_or_none (slice_get homes i)) (homes_of homes is)
+
 -- the first register that is free, the flag that a break clears, or none where it leaves a loop, and what the registers of the switches
 -- around hold besides, the last one first: ints
 pub record Around : Type 0 where
   pub first : ℕ
   pub flag : Option ℕ
   pub held : List (ℕ × ℕ)
+  -- the stack objects of the blocks around, up to the function's body, and those of them that the loop around stands in
+  pub around : List ℕ
+  pub outer : List ℕ
+  -- what ends behind the loop around once a break has left it, and before its step once a continue has
+  pub over : ℕ → Bool
 
 abbrev pub with_flag : Option ℕ → ℕ → List (ℕ × ℕ) → List (ℕ × ℕ)
 with_flag None z rest = rest
@@ -124,34 +134,40 @@ abbrev pub stopped : Around → List (ℕ × ℕ)
 stopped a = with_flag a.flag 0 a.held
 
 -- in the body of a function, in a loop, and in a switch of which the label of this number is chosen
-abbrev pub outermost : tree.Func → Around
-outermost f = record { first = length f.locals; flag = None; held = [] }
+abbrev pub outermost : List tree.Layout → tree.Func → Around
+outermost structs f = record { first = length f.locals; flag = None; held = []; around = (body_frame structs f).around; outer = []; over = λ k. true }
 
-abbrev pub in_a_loop : Around → Around
-in_a_loop a = record { first = a.first; flag = None; held = running a }
+abbrev pub in_a_loop : Around → (ℕ → Bool) → Around
+in_a_loop a over = record { first = a.first; flag = None; held = running a; around = a.around; outer = a.around; over = over }
 
 abbrev pub in_a_switch : Around → ℕ → Around
-in_a_switch a number = record { first = suc (suc a.first); flag = Some (suc a.first); held = (a.first, number) ∷ running a }
+in_a_switch a number = record { first = suc (suc a.first); flag = Some (suc a.first); held = (a.first, number) ∷ running a; around = a.around; outer = a.outer; over = a.over }
+
+-- in a block that declares locals with these stack objects
+abbrev pub in_a_block : Around → List ℕ → Around
+in_a_block a objects = record { first = a.first; flag = a.flag; held = a.held; around = objects ++ a.around; outer = a.outer; over = a.over }
 
 -- the same as if these registers were of other switches
 abbrev pub halted : Around → Around
-halted a = record { first = a.first; flag = None; held = stopped a }
+halted a = record { first = a.first; flag = None; held = stopped a; around = a.around; outer = a.outer; over = a.over }
 
 -- they hold these ints, and are apart
 abbrev pub Holds : (low high : ℕ) → (ℕ → Held) → List (ℕ × ℕ) → Type 0
 Holds low high tm [] = Unit {0}
 Holds low high tm (x ∷ rest) = (low ≤ x.0) × (x.0 < high) × (tm x.0 ≡ number (num int (pos x.1))) × Holds low x.0 tm rest
 
-pub record Agrees (homes : List (Option ℕ)) (first : ℕ) (held : List (ℕ × ℕ)) (locals : List tree.Local) (vs : List Variable) (tm : ℕ → Held) (ob : ℕ → Option ℕ) : Type 0 where
+pub record Agrees (homes : List (Option ℕ)) (first : ℕ) (held : List (ℕ × ℕ)) (around : List ℕ) (locals : List tree.Local) (vs : List Variable) (tm : ℕ → Held) (ob : ℕ → Option ℕ) : Type 0 where
   pub count : length vs ≡ length locals
   pub low : length locals ≤ first
   pub switches : Holds (length locals) first tm held
   pub register : (i : ℕ) (l : tree.Local) → slice_get locals i ≡ Some l → home_or_none (slice_get homes i) ≡ None → InRegister (access_of_type l.ty) (held_in vs i) (tm i)
   pub block : (i k : ℕ) → home_or_none (slice_get homes i) ≡ Some k → InBlock (held_in vs i) (ob k)
+  -- an object of no block around has ended, or never began
+  pub closed : (k : ℕ) → among around k ≡ false → ob k ≡ None
 
 -- in a call of this function
 abbrev pub AgreesIn : tree.Func → Around → List Variable → (ℕ → Held) → (ℕ → Option ℕ) → Type 0
-AgreesIn f a vs tm ob = Agrees (homes_from 0 f.locals) a.first (running a) f.locals vs tm ob
+AgreesIn f a vs tm ob = Agrees (homes_from 0 f.locals) a.first (running a) a.around f.locals vs tm ob
 
 -- ---- operators
 
@@ -203,11 +219,6 @@ Calls t = (f : tree.Func) → slice_get t.funcs t.main ≡ Some f → 0 < regist
 -- so many nodes are there only where that is so
 abbrev pub Free : tree.Typed → ℕ → Type 0
 Free t m = 0 < m → Calls t
-
--- the stack objects of these locals
-abbrev pub homes_of : List (Option ℕ) → List ℕ → List ℕ
-homes_of homes [] = []
-homes_of homes (i ∷ is) = with_home (home_or_none (slice_get homes i)) (homes_of homes is)
 
 -- what follows the arguments of a call, whose value comes to t, or is dropped
 abbrev pub after_args : (place : ℕ) → Callee → tree.Exprs → (t : ℕ) → Nodes → Nodes
@@ -278,21 +289,54 @@ module _ (t : tree.Typed) (n : ℕ) (f : tree.Func) where
   inside = record { context = context_of t f; params = f.params; result = f.result }
 
   abbrev pub fr : Around → Frame
-  fr a = record { structs = t.structs; homes = homes_from 0 f.locals; first = a.first; flag = a.flag }
+  fr a = record { structs = t.structs; homes = homes_from 0 f.locals; first = a.first; flag = a.flag; around = a.around; outer = a.outer }
+
+  -- a frame of this function, of which only the homes of the locals count
+  abbrev pub bare : Frame
+  bare = record { structs = t.structs; homes = homes_from 0 f.locals; first = 0; flag = None; around = []; outer = [] }
+
+  -- where statements stand whose blocks have these objects, and that declare these locals: each of the objects ends behind the loop
+  -- around, unless it is declared around that loop, too, and those of the locals are of blocks around
+  abbrev pub Room : Around → List ℕ → List ℕ → Type 0
+  Room a objects is = ((k : ℕ) → among objects k ≡ true → among a.outer k ≡ false → a.over k ≡ true) × ((k : ℕ) → among (homes_of (homes_from 0 f.locals) is) k ≡ true → among a.around k ≡ true)
+
+  abbrev pub RoomOf : Around → tree.Stmt → Type 0
+  RoomOf a s = Room a (held bare s) (declared_by s [])
+
+  abbrev pub RoomRow : Around → tree.Stmts → Type 0
+  RoomRow a rest = Room a (forms.held_in bare rest) (declared rest)
+
+  -- the jumps out of a loop's body
+  abbrev pub jumps_of : tree.Stmt → Jumps
+  jumps_of body = record { breaks = breaks_in body; continues = nexts_in body }
 
   pub record LoopIs (l : Loop) : Type 0 where
     pub condition : IfTyped ctx IsScalar l.condition
     pub step : IsWell inside in_step l.step
-    pub body : IsWell inside in_loop l.body
+    pub body : IsWell inside (jumps_of l.body) l.body
+    pub step_holds : held bare l.step ≡ []
+    pub step_declares : declared_by l.step [] ≡ []
+    pub body_declares : declared_by l.body [] ≡ []
     pub free_condition : Free t (count_if l.condition)
     pub free_step : Free t (greatest l.step)
     pub free_body : Free t (greatest l.body)
 
-  abbrev pub body_nodes : Around → Loop → Nodes
-  body_nodes a l = test_nodes (fr (in_a_loop a)) l.condition (stmt_nodes (fr (in_a_loop a)) l.body [] no_nodes)
+  -- in the body of a loop, and in its step
+  abbrev pub in_the_body : Around → Loop → Around
+  in_the_body a l = in_a_loop a (among (fresh a.around (held (looped (fr a)) l.body)))
 
-  abbrev pub latch_nodes : Around → Loop → Nodes
-  latch_nodes a l = stmt_nodes (fr (in_a_loop a)) l.step [] no_nodes
+  abbrev pub in_the_step : Around → Around
+  in_the_step a = in_a_loop a (λ k. false)
+
+  abbrev pub body_nodes : Around → Loop → Nodes
+  body_nodes a l = test_nodes (looped (fr a)) l.condition (stmt_nodes (looped (fr a)) l.body [] no_nodes)
+
+  abbrev pub latch_nodes : Around → (place : ℕ) → Loop → Nodes
+  latch_nodes a place l = ends place (over_next (looped (fr a)) l.body) (stmt_nodes (looped (fr a)) l.step [] no_nodes)
+
+  -- what is behind the loop, once its objects have ended
+  abbrev pub loop_behind : Around → (place : ℕ) → Loop → Nodes → Nodes
+  loop_behind a place l r = ends place (over_break (looped (fr a)) l.body) r
 
   -- the statements of a switch from the one of index i on
   abbrev pub cases : Around → (number place : ℕ) → List tree.Label → ℕ → tree.Stmts → List ℕ → Nodes → Nodes
@@ -301,21 +345,22 @@ module _ (t : tree.Typed) (n : ℕ) (f : tree.Func) where
   -- where a statement stands, what is left to do, the stack objects that end where the loop around is left, the nodes that do it, and
   -- what is behind these
   pub data AtS : Around → Jumps → Todo → List ℕ → Nodes → Position → Type 0 where
-    at_leaves : AtS (outermost f) in_function source.leaves [] (last_nodes (n == t.main) (registers_of f)) position.done
-    at_row : {a : Around} {io : Jumps} {k : Todo} {left : List ℕ} {r : Nodes} {q : Position} (rest : tree.Stmts) → AreWell inside io rest → Free t (greatest_row rest)
+    at_leaves : AtS (outermost t.structs f) in_function source.leaves [] (last_nodes (n == t.main) (registers_of f)) position.done
+    at_row : {a : Around} {io : Jumps} {k : Todo} {left : List ℕ} {r : Nodes} {q : Position} (rest : tree.Stmts) → AreWell inside io rest → RoomRow a rest → Free t (greatest_row rest)
         → AtS a io k left r q → AtS a io (source.then_row rest k) left (row_nodes (fr a) rest left r) q
     at_end : {a : Around} {io : Jumps} {k : Todo} {left : List ℕ} {r : Nodes} {q : Position} (place : ℕ) (is : List ℕ)
-        → AtS a io k left r q → AtS a io (source.then_end is k) (homes_of (homes_from 0 f.locals) is ++ left) (ends place (homes_of (homes_from 0 f.locals) is) r) q
+        → ((k : ℕ) → among (homes_of (homes_from 0 f.locals) is) k ≡ true → among a.outer k ≡ false → a.over k ≡ true)
+        → AtS a io k left r q → AtS (in_a_block a (homes_of (homes_from 0 f.locals) is)) io (source.then_end is k) (again a.outer (homes_of (homes_from 0 f.locals) is) ++ left) (ends place (homes_of (homes_from 0 f.locals) is) r) q
     at_loop : {a : Around} {io : Jumps} {k : Todo} {left : List ℕ} {r : Nodes} {q : Position} (place : ℕ) (around : List ℕ) (l : Loop) → LoopIs l
-        → AtS a io k left r q → AtS a in_function (source.then_loop l k) around (more_nodes (ir.loop place (body_nodes a l) (latch_nodes a l)) r) q
-    at_body : {a : Around} {io : Jumps} {k : Todo} {left : List ℕ} {r : Nodes} {q : Position} (l : Loop) → LoopIs l
-        → AtS a io k left r q → AtS (in_a_loop a) in_loop (source.in_body l k) [] no_nodes (position.in_body (body_nodes a l) (latch_nodes a l) (then_ r q))
-    at_step : {a : Around} {io : Jumps} {k : Todo} {left : List ℕ} {r : Nodes} {q : Position} (l : Loop) → LoopIs l
-        → AtS a io k left r q → AtS (in_a_loop a) in_step (source.in_step l k) [] no_nodes (position.in_latch (body_nodes a l) (latch_nodes a l) (then_ r q))
+        → AtS a io k left r q → AtS a in_function (source.then_loop l k) around (more_nodes (ir.loop place (body_nodes a l) (latch_nodes a place l)) (loop_behind a place l r)) q
+    at_body : {a : Around} {io : Jumps} {k : Todo} {left : List ℕ} {r : Nodes} {q : Position} (place : ℕ) (l : Loop) → LoopIs l
+        → AtS a io k left r q → AtS (in_the_body a l) (jumps_of l.body) (source.in_body l k) [] no_nodes (position.in_body (body_nodes a l) (latch_nodes a place l) (then_ (loop_behind a place l r) q))
+    at_step : {a : Around} {io : Jumps} {k : Todo} {left : List ℕ} {r : Nodes} {q : Position} (place : ℕ) (l : Loop) → LoopIs l
+        → AtS a io k left r q → AtS (in_the_step a) in_step (source.in_step l k) [] no_nodes (position.in_latch (body_nodes a l) (latch_nodes a place l) (then_ (loop_behind a place l r) q))
     at_switch : {a : Around} {io : Jumps} {k : Todo} {left : List ℕ} {r : Nodes} {q : Position} (number : ℕ) → length f.locals ≤ a.first
         → AtS a io k left r q → AtS (in_a_switch a number) (in_switch io) (source.in_switch k) left r q
     at_cases : {a : Around} {io : Jumps} {k : Todo} {left : List ℕ} {r : Nodes} {q : Position} (number place : ℕ) (labels : List tree.Label) (i : ℕ) (rest : tree.Stmts) → length f.locals ≤ a.first
-        → AreWell inside (in_switch io) rest → Free t (greatest_row rest) → IsPast labels number i
+        → AreWell inside (in_switch io) rest → RoomRow a rest → Free t (greatest_row rest) → IsPast labels number i
         → AtS a io k left r q → AtS (in_a_switch a number) (in_switch io) (source.then_row rest (source.in_switch k)) left (cases a number place labels i rest left r) q
     at_inner : {a : Around} {io : Jumps} {k : Todo} {left : List ℕ} {r : Nodes} {q : Position} → AtS a io k left r q → AtS a io k left no_nodes (then_ r q)
     at_int : {a : Around} {io : Jumps} {k : Todo} {left : List ℕ} {r : Nodes} {q : Position} (place to z : ℕ) → a.first ≤ to → AtS a io k left r q → AtS a io k left (sets_int place to z r) q
@@ -406,15 +451,15 @@ module _ (t : tree.Typed) (n : ℕ) (f : tree.Func) where
         → AtE ob tm a (source.update_local (update_of place x op) i k) a.first (access_of_type (tree.type_of right)) rch
         (sets (tree.place_of x) (suc a.first) (ir.copy i) (computes t.structs place op (tree.type_of x) (tree.type_of right) (suc a.first) a.first i r)) q
     at_if : {a : Around} {io : Jumps} {k : Todo} {left : List ℕ} {r : Nodes} {q : Position} (place : ℕ) (one other : tree.Stmt) (lh : Access) (rch : Reach)
-        → IsWell inside io one → IsWell inside io other
+        → IsWell inside io one → IsWell inside io other → RoomOf a one → RoomOf a other
         → AtS a io k left r q
         → AtE ob tm a (source.if_test place one other k) a.first lh rch (branches place a.first (stmt_nodes (fr a) one left no_nodes) (stmt_nodes (fr a) other left no_nodes) r) q
-    at_loop_test : {a : Around} {io : Jumps} {k : Todo} {left : List ℕ} {r : Nodes} {q : Position} (place : ℕ) (l : Loop) (lh : Access) (rch : Reach) → LoopIs l
+    at_loop_test : {a : Around} {io : Jumps} {k : Todo} {left : List ℕ} {r : Nodes} {q : Position} (place site : ℕ) (l : Loop) (lh : Access) (rch : Reach) → LoopIs l
         → AtS a io k left r q
-        → AtE ob tm (in_a_loop a) (source.loop_test place l k) a.first lh rch (branches place a.first no_nodes (more_nodes (ir.break_ place) no_nodes) (stmt_nodes (fr (in_a_loop a)) l.body [] no_nodes))
-        (position.in_body (body_nodes a l) (latch_nodes a l) (then_ r q))
+        → AtE ob tm (in_the_body a l) (source.loop_test place l k) a.first lh rch (branches place a.first no_nodes (more_nodes (ir.break_ place) no_nodes) (stmt_nodes (looped (fr a)) l.body [] no_nodes))
+        (position.in_body (body_nodes a l) (latch_nodes a site l) (then_ (loop_behind a site l r) q))
     at_switch_test : {a : Around} {io : Jumps} {k : Todo} {left : List ℕ} {r : Nodes} {q : Position} (place : ℕ) (labels : List tree.Label) (body : tree.Stmts) (s : IntType) (rch : Reach)
-        → AllByRecursion (IsLabel (tree.integer s) (stmts_count body)) labels → length labels ≤ 1024 → AreWell inside (in_switch io) body → Free t (greatest_row body)
+        → AllByRecursion (IsLabel (tree.integer s) (stmts_count body)) labels → length labels ≤ 1024 → AreWell inside (in_switch io) body → RoomRow a body → Free t (greatest_row body)
         → AtS a io k left r q
         → AtE ob tm a (source.switch_test labels body k) (suc (suc a.first)) (accesses.Number s) rch
         (sets_int place a.first (default_from 0 labels) (choose_nodes place a.first 0 labels (sets_int place (suc a.first) 0 (cases a 0 place labels 0 body left r)))) q
@@ -454,8 +499,8 @@ module _ (t : tree.Typed) where
         → AtE t n f ob tm a k u (accesses.Number int) found r q → PointIs n f ob tm a (source.gives (values.Num (num int (pos 0))) k) (then_ (sets_int place u 0 r) q)
     at_lacks : {a : Around} {u : ℕ} {r : Nodes} {q : Position} (place : ℕ) → tm u ≡ code.missing → PointIs n f ob tm a (source.lacks place) (then_ (sets place u (ir.copy u) r) q)
     at_begins : {a : Around} {io : Jumps} {k : Todo} {left : List ℕ} {r : Nodes} {q : Position} → AtS t n f a io k left r q → PointIs n f ob tm a (source.begins k) (then_ r q)
-    at_round : {a : Around} {io : Jumps} {k : Todo} {left : List ℕ} {r : Nodes} {q : Position} (l : Loop) → LoopIs t n f l → AtS t n f a io k left r q
-        → PointIs n f ob tm a (source.round l k) (then_ (body_nodes t n f a l) (position.in_body (body_nodes t n f a l) (latch_nodes t n f a l) (then_ r q)))
+    at_round : {a : Around} {io : Jumps} {k : Todo} {left : List ℕ} {r : Nodes} {q : Position} (place : ℕ) (l : Loop) → LoopIs t n f l → AtS t n f a io k left r q
+        → PointIs n f ob tm a (source.round l k) (then_ (body_nodes t n f a l) (position.in_body (body_nodes t n f a l) (latch_nodes t n f a place l) (then_ (loop_behind t n f a place l r) q)))
 
   pub data Same : Control → Thread Position Own → Type 0 where
     same : {a : Around} {n : ℕ} {f : tree.Func} {vs : List Variable} {tm : ℕ → Held} {ob : ℕ → Option ℕ} {b : Blocks} {p : source.TurnStart} {q : Position} {cs : List Caller} {cs' : List (Point Position Own)} {touched : List Touch}

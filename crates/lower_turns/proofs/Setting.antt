@@ -10,16 +10,16 @@ use Rattle.block_store.specs.Blocks.{Blocks}
 use Rattle.block_store.specs.Runs.{Turn}
 use Rattle.c_tree.specs.Typed as tree
 use Rattle.c_tree.specs.TypedForm.{Jumps, IsFunc, IsWellFormed}
-use Rattle.c_meaning.specs.Control.{Variable, Caller, Control}
+use Rattle.c_meaning.specs.Control.{Variable, Caller, Control, Loop}
 use Rattle.c_meaning.specs.Turns.{TurnContext, Now, WayOfUse, Way}
 use Rattle.struct_ir.specs.Nodes.{Nodes, no_nodes}
 use Rattle.struct_ir.specs.Structured.{Position, then_, out_of, end_of}
 use Rattle.struct_ir.specs.Machine.{Point}
 use Rattle.struct_ir.specs.Threads.{Thread}
 use Rattle.struct_ir.specs.meaning.Blocks.{Held, value, Own, object_ended}
-use Rattle.lower_forms.specs.Forms.{Reach, found, Frame}
+use Rattle.lower_forms.specs.Forms.{Reach, found, Frame, home, among}
 use Rattle.lower_forms.specs.Programs.{homes_from, lowered}
-use Rattle.lower_turns.proofs.Relation.{HasKind, Below, Points, Around, running, in_a_loop, halted, AgreesIn, fr, AtE, AtS, at_found, at_inside, at_inner, AllBegin, InCall, Callers, Together}
+use Rattle.lower_turns.proofs.Relation.{HasKind, Below, Points, Around, running, in_the_body, in_the_step, halted, AgreesIn, fr, AtE, AtS, at_found, at_inside, at_inner, AllBegin, InCall, Callers, Together}
 use Rattle.lower_turns.proofs.Registers.{below_less, below_then, use_below, agrees_below}
 use Rattle.lower_turns.proofs.Steps.{onward, no_more, then_same}
 
@@ -87,9 +87,16 @@ at_around g a low = record {
   callers = g.callers;
 }
 
--- in a loop, and where a break has cleared the flag around
-abbrev pub looped_in : Setting → Setting
-looped_in g = at_around g (in_a_loop g.a) g.low
+-- the stack object of a local is one of a block around
+abbrev pub IsOpen : Setting → ℕ → Type 0
+IsOpen g i = (k : ℕ) → home (frame g) i ≡ Some k → among g.a.around k ≡ true
+
+-- in a loop's body, in its step, and where a break has cleared the flag around
+abbrev pub body_in : Setting → Loop → Setting
+body_in g l = at_around g (in_the_body g.t g.n g.f g.a l) g.low
+
+abbrev pub step_in : Setting → Setting
+step_in g = at_around g (in_the_step g.t g.n g.f g.a) g.low
 
 abbrev pub halted_in : Setting → Setting
 halted_in g = at_around g (halted g.a) g.low
@@ -99,7 +106,7 @@ pub start_is : (g : Setting) → length g.f.locals ≤ start g
 start_is g = g.low
 
 pub agrees_on : (g : Setting) (vs : List Variable) (a b : ℕ → Held) (ob : ℕ → Option ℕ) (u : ℕ) → start g ≤ u → Stands g vs a ob → Below u a b → Stands g vs b ob
-agrees_on g vs a b ob u le h w = agrees_below (homes_from 0 g.f.locals) g.a.first (running g.a) g.f.locals vs a b ob h (below_less u (start g) a b le w)
+agrees_on g vs a b ob u le h w = agrees_below (homes_from 0 g.f.locals) g.a.first (running g.a) g.a.around g.f.locals vs a b ob h (below_less u (start g) a b le w)
 
 -- ---- after a value
 
@@ -157,12 +164,19 @@ abbrev pub Leaves : Setting → Way → List ℕ → Nodes → Position → Opti
 Leaves g w left r q None = (vs : List Variable) (b : Blocks) (tm : ℕ → Held) (ob : ℕ → Option ℕ) → Stands g vs tm ob → Alike g (w.breaks (now g vs b)) (out_of q) (objects_over left (own g ob tm b))
 Leaves g w left r q (Some flag) = (vs : List Variable) (b : Blocks) (tm : ℕ → Held) (ob : ℕ → Option ℕ) → Stands (halted_in g) vs tm ob → Alike g (w.breaks (now g vs b)) (then_ r q) (own g ob tm b)
 
+-- at this position an object that hasn't ended yet makes no difference
+abbrev pub Forgives : Setting → Position → ℕ → Type 0
+Forgives g q k = (l : Own) → onward (lowered g.t) g.thread g.answer g.cs' g.s q (object_ended l k) ≡ onward (lowered g.t) g.thread g.answer g.cs' g.s q l
+
 pub record GoesS (g : Setting) (io : Jumps) (w : Way) (left : List ℕ) (r : Nodes) (q : Position) : Type 0 where
   pub at : AtS g.t g.n g.f g.a io w.k left r q
   pub end : (vs : List Variable) (b : Blocks) (tm : ℕ → Held) (ob : ℕ → Option ℕ) → Stands g vs tm ob → Alike g (w.end (now g vs b)) (then_ r q) (own g ob tm b)
   pub breaks : io.breaks ≡ true → Leaves g w left r q g.a.flag
   pub continues : io.continues ≡ true → (vs : List Variable) (b : Blocks) (tm : ℕ → Held) (ob : ℕ → Option ℕ) → Stands g vs tm ob
       → Alike g (w.continues (now g vs b)) (end_of q) (objects_over left (own g ob tm b))
+  -- what ends anyway behind the loop around, and before its step
+  pub over_breaks : io.breaks ≡ true → g.a.flag ≡ None → (k : ℕ) → g.a.over k ≡ true → Forgives g (out_of q) k
+  pub over_nexts : io.continues ≡ true → (k : ℕ) → g.a.over k ≡ true → Forgives g (end_of q) k
 
 pub row_ends : (g : Setting) (x : Turn Control) (q : Position) (l : Own) → Alike g x q l → Alike g x (then_ no_nodes q) l
 row_ends g x q l h = then_same (lowered g.t) g.thread g.answer g.cs' g.s g.t x (then_ no_nodes q) q l l (no_more (lowered g.t) g.thread g.answer g.cs' g.s q l) h
@@ -174,6 +188,8 @@ inner_row g io w left r q goes = record {
   end = λ vs b tm ob h. row_ends g (w.end (now g vs b)) (then_ r q) (own g ob tm b) (goes.end vs b tm ob h);
   breaks = λ e. inner_leaves g.a.flag (goes.breaks e);
   continues = goes.continues;
+  over_breaks = goes.over_breaks;
+  over_nexts = goes.over_nexts;
 }
   where
     inner_leaves : (flag : Option ℕ) → Leaves g w left r q flag → Leaves g w left no_nodes (then_ r q) flag

@@ -27,7 +27,7 @@ use Rattle.struct_ir.specs.Structured.{Position, then_}
 use Rattle.struct_ir.specs.meaning.Blocks.{Held, value, number, Own, set_at, known, on_value, on_number, or_broken, calculated, takes, if_taken}
 use Rattle.lower_forms.specs.Forms.{Reach, number_type, sets_int, branches, equal_nodes, choose_nodes, begin_nodes, begin_if, label_nodes, stmt_place, stmt_nodes, switch_nodes}
 use Rattle.lower_forms.specs.Programs.{homes_from, lowered}
-use Rattle.lower_turns.proofs.Relation.{HasKind, Below, cases, at_switch_test, inside, running, in_a_switch, Agrees, IsPast, Free, at_switch, at_cases}
+use Rattle.lower_turns.proofs.Relation.{HasKind, Below, cases, at_switch_test, RoomRow, inside, running, in_a_switch, Agrees, IsPast, Free, at_switch, at_cases}
 use Rattle.lower_forms.specs.Counts.{greatest_row}
 use Rattle.lower_turns.proofs.Registers.{set_here, set_there}
 use Rattle.lower_turns.proofs.Values.{taken_is}
@@ -231,10 +231,10 @@ module _ (g : Setting) (n : ℕ) (low : length g.f.locals ≤ suc (suc (start g)
 
   -- what the registers hold, by what the flag is
   abbrev pub SwitchStands : ℕ → List Variable → (ℕ → Held) → (ℕ → Option ℕ) → Type 0
-  SwitchStands z vs tm ob = Agrees (homes_from 0 g.f.locals) (suc (suc (start g))) ((suc (start g), z) ∷ (start g, n) ∷ running g.a) g.f.locals vs tm ob
+  SwitchStands z vs tm ob = Agrees (homes_from 0 g.f.locals) (suc (suc (start g))) ((suc (start g), z) ∷ (start g, n) ∷ running g.a) g.a.around g.f.locals vs tm ob
 
   pub leaves_switch : (z : ℕ) (vs : List Variable) (tm : ℕ → Held) (ob : ℕ → Option ℕ) → SwitchStands z vs tm ob → Stands g vs tm ob
-  leaves_switch z vs tm ob h = record { count = h.count; low = g.low; switches = h.switches.3.3; register = h.register; block = h.block }
+  leaves_switch z vs tm ob h = record { count = h.count; low = g.low; switches = h.switches.3.3; register = h.register; block = h.block; closed = h.closed }
 
   pub enters_switch : (z : ℕ) (vs : List Variable) (tm : ℕ → Held) (ob : ℕ → Option ℕ) → Stands g vs tm ob → tm (start g) ≡ number (num int (pos n)) → tm (suc (start g)) ≡ number (num int (pos z)) → SwitchStands z vs tm ob
   enters_switch z vs tm ob h e d = record {
@@ -243,6 +243,7 @@ module _ (g : Setting) (n : ℕ) (low : length g.f.locals ≤ suc (suc (start g)
     switches = (omega (arith, g.low), omega arith, d, (g.low, omega arith, e, h.switches));
     register = h.register;
     block = h.block;
+    closed = h.closed;
   }
 
   -- the statements go on
@@ -258,6 +259,8 @@ module _ (g : Setting) (n : ℕ) (low : length g.f.locals ≤ suc (suc (start g)
     end = λ vs b tm ob h. goes.end vs b tm ob (leaves_switch 1 vs tm ob h);
     breaks = λ e vs b tm ob h. goes.end vs b tm ob (leaves_switch 0 vs tm ob h);
     continues = λ e vs b tm ob h. goes.continues e vs b tm ob (leaves_switch 1 vs tm ob h);
+    over_breaks = λ e none. absurd cc;
+    over_nexts = goes.over_nexts;
   }
 
   module _ (place : ℕ) (labels : List tree.Label) (few : length labels ≤ 1024) (small : n ≤ 1024) where
@@ -295,15 +298,17 @@ module _ (g : Setting) (n : ℕ) (low : length g.f.locals ≤ suc (suc (start g)
           → Alike g (run_row (here g) rest (switch_way w) (now g vs b)) (then_ (from_case i rest left r) q) (own g ob tm b)
 
       -- behind a statement of a switch
-      pub cases_goes : (i : ℕ) (rest : tree.Stmts) → AreWell (inside g.t g.n g.f) (in_switch io) rest → Free g.t (greatest_row rest) → IsPast labels n i → SimCases i rest
+      pub cases_goes : (i : ℕ) (rest : tree.Stmts) → AreWell (inside g.t g.n g.f) (in_switch io) rest → RoomRow g.t g.n g.f g.a rest → Free g.t (greatest_row rest) → IsPast labels n i → SimCases i rest
           → GoesS inside_switch (in_switch io) (row_way rest (run_row (here g) rest) (switch_way w)) left (from_case i rest left r) q
-      cases_goes i rest well free past sim = record {
-        at = at_cases n place labels i rest g.low well free past goes.at;
+      cases_goes i rest well room free past sim = record {
+        at = at_cases n place labels i rest g.low well room free past goes.at;
         end = λ vs b tm ob h. sim vs b tm ob h;
         breaks = λ e vs b tm ob h.
             passed_over rest i (λ at d. let is : past.at ≡ at = same_Some past.at at (sym past.starts ∙ d) in omega (arith, past.past, is)) left r q (w.end (now g vs b)) vs b tm ob h
             (λ a z. goes.end vs b a ob (leaves_switch 0 vs a ob z));
         continues = λ e vs b tm ob h. goes.continues e vs b tm ob (leaves_switch 1 vs tm ob h);
+        over_breaks = λ e none. absurd cc;
+        over_nexts = goes.over_nexts;
       }
 
       module _ (s : tree.Stmt) (rest : tree.Stmts) (i : ℕ) (sim : SimS inside_switch (in_switch io) s)
@@ -359,12 +364,12 @@ module _ (g : Setting) (io : Jumps) (w : Way) (left : List ℕ) (r : Nodes) (q :
       (λ a z. goes.end vs b a ob (leaves_switch g n low 0 vs a ob z))
   starts_from sim n low small (Some at) e vs b tm ob h = sim n low small at e vs b tm ob h
 
-  pub switch_test_goes : (s : IntType) → AllByRecursion (IsLabel (tree.integer s) (stmts_count body)) labels → AreWell (inside g.t g.n g.f) (in_switch io) body → Free g.t (greatest_row body) → SimFrom
+  pub switch_test_goes : (s : IntType) → AllByRecursion (IsLabel (tree.integer s) (stmts_count body)) labels → AreWell (inside g.t g.n g.f) (in_switch io) body → RoomRow g.t g.n g.f g.a body → Free g.t (greatest_row body) → SimFrom
       → (vs : List Variable) (ob : ℕ → Option ℕ) (b : Blocks) (tm : ℕ → Held) → Stands g vs tm ob → (rch : Reach)
       → GoesE g vs ob b tm (switch_test_way labels body (run_from (here g) body) w) (suc (suc (start g))) (accesses.Number s) rch
       (sets_int place (start g) (default_from 0 labels) (choose_nodes place (start g) 0 labels (sets_int place (suc (start g)) 0 (cases g.t g.n g.f g.a 0 place labels 0 body left r)))) q
-  switch_test_goes s all well free sim vs ob b tm agrees rch = record {
-    at = at_switch_test place labels body s rch all few well free goes.at;
+  switch_test_goes s all well room free sim vs ob b tm agrees rch = record {
+    at = at_switch_test place labels body s rch all few well room free goes.at;
     above = omega arith;
     agrees = agrees;
     go = λ v a kind below is points. by v a kind below is;

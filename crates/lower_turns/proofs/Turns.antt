@@ -15,7 +15,7 @@ use Rattle.block_store.specs.Actions.{World}
 use Rattle.block_store.specs.Blocks.{Blocks}
 use Rattle.block_store.specs.Runs as runs
 use Rattle.c_tree.specs.Typed as tree
-use Rattle.c_tree.specs.TypedForm.{Jumps, in_loop, IsWellFormed, IsFunc, CanStart, IsNth, AreArguments, signature_of}
+use Rattle.c_tree.specs.TypedForm.{Jumps, IsWellFormed, IsFunc, CanStart, IsNth, AreArguments, signature_of}
 use Rattle.c_meaning.specs.Values.{access_of_type}
 use Rattle.c_meaning.specs.Control as source
 use Rattle.c_meaning.specs.Control.{Variable, Control, Todo, Use, wanted, dropped}
@@ -31,10 +31,11 @@ use Rattle.struct_ir.specs.meaning.Blocks.{Held, value, number, broken, Own, set
 use Rattle.struct_ir.specs.meaning.Threads.{nodes_of, params_of, first_temps, passed, blocks_world, start_in, turned, program_of}
 use Rattle.lower_forms.specs.Forms.{Reach, found, sets, sets_int, member_reach}
 use Rattle.lower_forms.specs.Programs.{homes_from, registers_of, lowered}
-use Rattle.lower_turns.proofs.Relation.{Around, AgreesIn, outermost, in_step, at_switch, at_cases, at_switch_test, Calls, Free, AtS, at_leaves, at_row, at_end, at_loop, at_body, at_step, at_inner, at_int, AtE, at_first, at_second, at_convert, at_not, at_test, at_member, at_read, at_and, at_or, at_second_test, at_choice, at_wanted, at_dropped, at_local, at_left, at_place, at_block, at_struct_left, at_struct_right, at_update_left, at_update_right, at_update_read, at_update_local, at_if, at_loop_test, at_caller, at_nowhere, at_inside, at_found, at_again, no_callers, PointIs, at_gives, at_zero, at_lacks, at_begins, at_round, Same, same, CanBegin, AllBegin, Together, both_broke}
+use Rattle.lower_turns.proofs.Relation.{Around, AgreesIn, outermost, jumps_of, in_step, at_switch, at_cases, at_switch_test, Calls, Free, AtS, at_leaves, at_row, at_end, at_loop, at_body, at_step, at_inner, at_int, AtE, at_first, at_second, at_convert, at_not, at_test, at_member, at_read, at_and, at_or, at_second_test, at_choice, at_wanted, at_dropped, at_local, at_left, at_place, at_block, at_struct_left, at_struct_right, at_update_left, at_update_right, at_update_read, at_update_local, at_if, at_loop_test, at_caller, at_nowhere, at_inside, at_found, at_again, no_callers, PointIs, at_gives, at_zero, at_lacks, at_begins, at_round, Same, same, CanBegin, AllBegin, Together, both_broke}
+use Rattle.lower_turns.proofs.Rooms.{whole_room, body_room, step_room}
 use Rattle.lower_turns.proofs.Registers.{set_here, below_same, below_set, agrees_below}
 use Rattle.lower_turns.proofs.Steps.{set_then, set_breaks}
-use Rattle.lower_turns.proofs.Setting.{Stands, Leaves, at_around, looped_in, halted_in, Setting, here, now, own, Alike, start, agrees_on, GoesE, GoesS, points_found, anyhow, inner, inner_row}
+use Rattle.lower_turns.proofs.Setting.{Stands, Leaves, at_around, body_in, step_in, halted_in, Setting, here, now, own, Alike, start, agrees_on, GoesE, GoesS, points_found, anyhow, inner, inner_row}
 use Rattle.lower_turns.proofs.Uses.{gets, second_goes, truth_goes, not_goes, test_goes, member_goes, convert_goes, read_goes}
 use Rattle.lower_turns.proofs.Tests.{first_goes, and_goes, or_goes, choice_goes}
 use Rattle.lower_turns.proofs.Calls.{all_at, nth_lowered, ParamsAre, new_agrees, wait_wanted, wait_dropped}
@@ -64,6 +65,8 @@ module _ (g : Setting) where
         (goes.end vs b (set_at tm to (number (num int (pos z)))) ob (agrees_on g vs tm (set_at tm to (number (num int (pos z)))) ob (start g) (omega arith) h (below_set (start g) to tm tm (number (num int (pos z))) le (below_same (start g) tm))));
     breaks = λ e. int_leaves w left r q place to z le g.a.flag (goes.breaks e);
     continues = goes.continues;
+    over_breaks = goes.over_breaks;
+    over_nexts = goes.over_nexts;
   }
 
   module _ (busy : Calls g.t) (vs : List Variable) (ob : ℕ → Option ℕ) (b : Blocks) (tm : ℕ → Held) (agrees : Stands g vs tm ob) where
@@ -81,23 +84,23 @@ module _ (g : Setting) where
 module _ (g : Setting) where
   -- what is left to do is done alike
   pub goes_s : (a : Around) (low : length g.f.locals ≤ a.first) (io : Jumps) (k : Todo) (left : List ℕ) (r : Nodes) (q : Position) → AtS g.t g.n g.f a io k left r q → GoesS (at_around g a low) io (way_of (here g) k) left r q
-  goes_s _ low _ _ _ _ _ at_leaves = leave_goes (at_around g (outermost g.f) low) refl
-  goes_s _ low _ _ _ _ _ (at_row {a} {io} {k} {left} {r} {q} rest well free at) = row_goes (at_around g a low) io (way_of (here g) k) left r q (goes_s a low io k left r q at) rest well free (row_sim (at_around g a low) rest io well free)
-  goes_s _ low _ _ _ _ _ (at_end {a} {io} {k} {left} {r} {q} place is at) = end_goes (at_around g a low) io (way_of (here g) k) left r q (goes_s a low io k left r q at) place is
+  goes_s _ low _ _ _ _ _ at_leaves = leave_goes (at_around g (outermost g.t.structs g.f) low) refl
+  goes_s _ low _ _ _ _ _ (at_row {a} {io} {k} {left} {r} {q} rest well room free at) = row_goes (at_around g a low) io (way_of (here g) k) left r q (goes_s a low io k left r q at) rest well room free (row_sim (at_around g a low) rest io well room free)
+  goes_s _ low _ _ _ _ _ (at_end {a} {io} {k} {left} {r} {q} place is covers at) = end_goes (at_around g a low) io (way_of (here g) k) left r q (goes_s a low io k left r q at) place is covers
   goes_s _ low _ _ _ _ _ (at_loop {a} {io} {k} {left} {r} {q} place around l is at) =
-      loop_goes (at_around g a low) io (way_of (here g) k) left r q (goes_s a low io k left r q at) l is (stmt_sim (looped_in (at_around g a low)) l.step in_step is.step is.free_step) (stmt_sim (looped_in (at_around g a low)) l.body in_loop is.body is.free_body) place around
-  goes_s _ low _ _ _ _ _ (at_body {a} {io} {k} {left} {r} {q} l is at) = body_goes (at_around g a low) io (way_of (here g) k) left r q (goes_s a low io k left r q at) l is (stmt_sim (looped_in (at_around g a low)) l.step in_step is.step is.free_step)
-  goes_s _ low _ _ _ _ _ (at_step {a} {io} {k} {left} {r} {q} l is at) = step_goes (at_around g a low) io (way_of (here g) k) left r q (goes_s a low io k left r q at) l is
+      loop_goes (at_around g a low) io (way_of (here g) k) left r q (goes_s a low io k left r q at) l is place (stmt_sim (step_in (at_around g a low)) l.step in_step is.step (step_room g.t g.n g.f a l is) is.free_step) (stmt_sim (body_in (at_around g a low) l) l.body (jumps_of g.t g.n g.f l.body) is.body (body_room g.t g.n g.f a l is) is.free_body) around
+  goes_s _ low _ _ _ _ _ (at_body {a} {io} {k} {left} {r} {q} site l is at) = body_goes (at_around g a low) io (way_of (here g) k) left r q (goes_s a low io k left r q at) l is site (stmt_sim (step_in (at_around g a low)) l.step in_step is.step (step_room g.t g.n g.f a l is) is.free_step)
+  goes_s _ low _ _ _ _ _ (at_step {a} {io} {k} {left} {r} {q} site l is at) = step_goes (at_around g a low) io (way_of (here g) k) left r q (goes_s a low io k left r q at) l is site
   goes_s _ low _ _ _ _ _ (at_inner {a} {io} {k} {left} {r} {q} at) = inner_row (at_around g a low) io (way_of (here g) k) left r q (goes_s a low io k left r q at)
   goes_s _ low _ _ _ _ _ (at_int {a} {io} {k} {left} {r} {q} place to z le at) = int_goes (at_around g a low) io (way_of (here g) k) left r q (goes_s a low io k left r q at) place to z le
   goes_s _ low _ _ _ _ _ (at_switch {a} {io} {k} {left} {r} {q} n under at) = switch_goes (at_around g a under) n low io (way_of (here g) k) left r q (goes_s a under io k left r q at)
-  goes_s _ low _ _ _ _ _ (at_cases {a} {io} {k} {left} {r} {q} n place labels i rest under well free past at) =
+  goes_s _ low _ _ _ _ _ (at_cases {a} {io} {k} {left} {r} {q} n place labels i rest under well room free past at) =
       let goes = goes_s a under io k left r q at in
       let l = label_there labels n past.at past.starts in
       let few : length labels ≤ 1024 = past.few in
       let small : n ≤ 1024 = omega (arith, few, slice_get_within labels n l.0 l.1) in
-      cases_goes (at_around g a under) n low place labels few small io (way_of (here g) k) left r q goes i rest well free past
-      (cases_sim (at_around g a under) n low place labels few small io (way_of (here g) k) left r q goes rest well free i past)
+      cases_goes (at_around g a under) n low place labels few small io (way_of (here g) k) left r q goes i rest well room free past
+      (cases_sim (at_around g a under) n low place labels few small io (way_of (here g) k) left r q goes rest well room free i past)
 
   -- what a value is used for is done alike
   module _ (busy : Calls g.t) (vs : List Variable) (ob : ℕ → Option ℕ) (b : Blocks) (tm : ℕ → Held) where
@@ -145,14 +148,14 @@ module _ (g : Setting) where
         update_read_goes (at_around g a low) vs ob b tm agrees io (way_of (here g) k) left r q (goes_s a low io k left r q at) place x right op to by via rch leads scalar can kind e
     goes_e _ low agrees _ _ _ _ _ _ (at_update_local {a} {io} {k} {left} {r} {q} place i l x right op rch there none is scalar can at) =
         update_local_goes (at_around g a low) vs ob b tm agrees io (way_of (here g) k) left r q (goes_s a low io k left r q at) place i l x right op rch there none is scalar can
-    goes_e _ low agrees _ _ _ _ _ _ (at_if {a} {io} {k} {left} {r} {q} place one other lh rch w1 w2 at) =
-        if_goes (at_around g a low) io (way_of (here g) k) left r q (goes_s a low io k left r q at) place one other w1 w2 (stmt_sim (at_around g a low) one io w1 (λ z. busy)) (stmt_sim (at_around g a low) other io w2 (λ z. busy)) vs ob b tm agrees lh rch
-    goes_e _ low agrees _ _ _ _ _ _ (at_loop_test {a} {io} {k} {left} {r} {q} place l lh rch is at) =
-        round_goes (at_around g a low) io (way_of (here g) k) left r q (goes_s a low io k left r q at) l is (stmt_sim (looped_in (at_around g a low)) l.step in_step is.step is.free_step) (stmt_sim (looped_in (at_around g a low)) l.body in_loop is.body is.free_body) vs ob b tm agrees place lh rch
-    goes_e _ low agrees _ _ _ _ _ _ (at_switch_test {a} {io} {k} {left} {r} {q} place labels body s rch all few well free at) =
+    goes_e _ low agrees _ _ _ _ _ _ (at_if {a} {io} {k} {left} {r} {q} place one other lh rch w1 w2 m1 m2 at) =
+        if_goes (at_around g a low) io (way_of (here g) k) left r q (goes_s a low io k left r q at) place one other w1 w2 m1 m2 (stmt_sim (at_around g a low) one io w1 m1 (λ z. busy)) (stmt_sim (at_around g a low) other io w2 m2 (λ z. busy)) vs ob b tm agrees lh rch
+    goes_e _ low agrees _ _ _ _ _ _ (at_loop_test {a} {io} {k} {left} {r} {q} place site l lh rch is at) =
+        round_goes (at_around g a low) io (way_of (here g) k) left r q (goes_s a low io k left r q at) l is site (stmt_sim (step_in (at_around g a low)) l.step in_step is.step (step_room g.t g.n g.f a l is) is.free_step) (stmt_sim (body_in (at_around g a low) l) l.body (jumps_of g.t g.n g.f l.body) is.body (body_room g.t g.n g.f a l is) is.free_body) vs ob b tm agrees place lh rch
+    goes_e _ low agrees _ _ _ _ _ _ (at_switch_test {a} {io} {k} {left} {r} {q} place labels body s rch all few well room free at) =
         let goes = goes_s a low io k left r q at in
-        switch_test_goes (at_around g a low) io (way_of (here g) k) left r q goes place labels body few s all well free
-        (λ n under small i at_it. from_sim (at_around g a low) n under place labels few small io (way_of (here g) k) left r q goes body well free 0 i (at_it ∙ ap Some (sum_zero i))) vs ob b tm agrees rch
+        switch_test_goes (at_around g a low) io (way_of (here g) k) left r q goes place labels body few s all well room free
+        (λ n under small i at_it. from_sim (at_around g a low) n under place labels few small io (way_of (here g) k) left r q goes body well room free 0 i (at_it ∙ ap Some (sum_zero i))) vs ob b tm agrees rch
     goes_e _ low agrees _ _ _ _ _ _ (at_caller {a} {r} {q} place rch) = caller_goes (at_around g a low) vs ob b tm agrees place rch r q
     goes_e _ low agrees _ _ _ _ _ _ (at_nowhere {a} {io} {k} {left} {r} {q} how rch at) = nowhere_goes (at_around g a low) vs ob b tm agrees io (way_of (here g) k) left r q (goes_s a low io k left r q at) how rch
     goes_e _ low agrees _ _ _ _ _ _ (at_inside {a} {k} {u} {how} {rch} {r} {q} at) = inner (at_around g a low) vs ob b tm (use_of (here g) k) u how rch r q (goes_e a low agrees k u how rch r q at)
@@ -172,8 +175,8 @@ module _ (g : Setting) where
       subst (Together g.t (runs.broke C15 place))
       (sym (set_breaks (lowered g.t) g.thread g.answer g.cs' g.s place u (ir.copy u) r q (own g ob tm b) (broken C15 place) (ap (λ (h : Held). on_value (known place h) (λ z. Ok (value z))) is))) (both_broke C15 place)
   point_alike a low vs ob b tm agrees _ _ (at_begins {io = io} {k} {left} {r} {q} at) = (goes_s a low io k left r q at).end vs b tm ob agrees
-  point_alike a low vs ob b tm agrees _ _ (at_round {io = io} {k} {left} {r} {q} l is at) =
-      loop_alike (at_around g a low) io (way_of (here g) k) left r q (goes_s a low io k left r q at) l is (stmt_sim (looped_in (at_around g a low)) l.step in_step is.step is.free_step) (stmt_sim (looped_in (at_around g a low)) l.body in_loop is.body is.free_body) vs b tm ob agrees
+  point_alike a low vs ob b tm agrees _ _ (at_round {io = io} {k} {left} {r} {q} site l is at) =
+      loop_alike (at_around g a low) io (way_of (here g) k) left r q (goes_s a low io k left r q at) l is site (stmt_sim (step_in (at_around g a low)) l.step in_step is.step (step_room g.t g.n g.f a l is) is.free_step) (stmt_sim (body_in (at_around g a low) l) l.body (jumps_of g.t g.n g.f l.body) is.body (body_room g.t g.n g.f a l is) is.free_body) vs b tm ob agrees
 
 -- a turn
 pub turn_alike : (t : tree.Typed) → IsWellFormed t → (thread : ℕ) (answer : Answer) (x : Control) (y : Thread Position Own) (w : World) → AllBegin t w → Same t x y
@@ -210,31 +213,31 @@ a_pointer : tree.Expr
 a_pointer = tree.at 0 (tree.pointer tree.void) tree.null
 
 module _ (t : tree.Typed) (well : IsWellFormed t) (argument : Ptr) where
-  begin_zero : (m : ℕ) (f : tree.Func) (k : ℕ) → k ≡ 0 → AgreesIn f (outermost f) (first_locals f (arguments_if k argument)) (first_temps k argument) (λ i. None)
+  begin_zero : (m : ℕ) (f : tree.Func) (k : ℕ) → k ≡ 0 → AgreesIn f (outermost t.structs f) (first_locals f (arguments_if k argument)) (first_temps k argument) (λ i. None)
   begin_zero m f k e =
-      subst (λ j. AgreesIn f (outermost f) (first_locals f (arguments_if j argument)) (first_temps j argument) (λ i. None)) (sym e)
+      subst (λ j. AgreesIn f (outermost t.structs f) (first_locals f (arguments_if j argument)) (first_temps j argument) (λ i. None)) (sym e)
       (new_agrees t m f 0 tree.no_exprs [] (λ i. code.unset) 0 (tt, tt) tt)
 
   one_temp : (i : ℕ) → first_temps 1 argument i ≡ passed (λ j. value (values.Pointer argument)) (0 ∷ []) i
   one_temp zero = refl
   one_temp (suc i) = refl
 
-  begin_one : (m : ℕ) (f : tree.Func) (k : ℕ) → k ≡ 1 → ParamsAre 1 f.locals (tree.more_exprs a_pointer tree.no_exprs) → AgreesIn f (outermost f) (first_locals f (arguments_if k argument)) (first_temps k argument) (λ i. None)
+  begin_one : (m : ℕ) (f : tree.Func) (k : ℕ) → k ≡ 1 → ParamsAre 1 f.locals (tree.more_exprs a_pointer tree.no_exprs) → AgreesIn f (outermost t.structs f) (first_locals f (arguments_if k argument)) (first_temps k argument) (λ i. None)
   unfolding a_pointer
   begin_one m f k e params =
-      subst (λ j. AgreesIn f (outermost f) (first_locals f (arguments_if j argument)) (first_temps j argument) (λ i. None)) (sym e)
-      (agrees_below (homes_from 0 f.locals) (length f.locals) [] f.locals (first_locals f (values.Pointer argument ∷ [])) (passed (λ j. value (values.Pointer argument)) (0 ∷ [])) (first_temps 1 argument) (λ i. None)
+      subst (λ j. AgreesIn f (outermost t.structs f) (first_locals f (arguments_if j argument)) (first_temps j argument) (λ i. None)) (sym e)
+      (agrees_below (homes_from 0 f.locals) (length f.locals) [] (outermost t.structs f).around f.locals (first_locals f (values.Pointer argument ∷ [])) (passed (λ j. value (values.Pointer argument)) (0 ∷ [])) (first_temps 1 argument) (λ i. None)
       (new_agrees t m f 1 (tree.more_exprs a_pointer tree.no_exprs) (values.Pointer argument ∷ []) (λ j. value (values.Pointer argument)) 0 params (tt, refl, tt)) (λ i lt. one_temp i))
 
   -- a function's first turn, where its locals agree
-  begins_with : (m : ℕ) (f : tree.Func) → slice_get t.funcs m ≡ Some f → f.result ≡ tree.integer int → Free t (registers_of f) → AgreesIn f (outermost f) (first_locals f (arguments_if f.params argument)) (first_temps f.params argument) (λ i. None)
+  begins_with : (m : ℕ) (f : tree.Func) → slice_get t.funcs m ≡ Some f → f.result ≡ tree.integer int → Free t (registers_of f) → AgreesIn f (outermost t.structs f) (first_locals f (arguments_if f.params argument)) (first_temps f.params argument) (λ i. None)
       → Same t (begins_if m argument (slice_get t.funcs m)) ((program_of (lowered t)).begins m argument)
   begins_with m f there gives free agrees =
       let fits = all_at (IsFunc t) t.funcs m f well.funcs there in
       subst (λ (o : Option tree.Func). Same t (begins_if m argument o) ((program_of (lowered t)).begins m argument)) (sym there)
       (subst (λ (o : Option Func). Same t (begins_in m f (arguments_if f.params argument) []) (record { top = record { at = then_ (nodes_of o) done; own = record { function = m; temps = first_temps (params_of o) argument; objects = λ i. None; blocks = [] } }; callers = [] }))
       (sym (nth_lowered t m f there))
-      (same (record { there = there; free = free }) agrees (at_begins (at_row f.body fits.body (λ lt. free (omega (arith, lt))) at_leaves)) (no_callers m f there gives)))
+      (same (record { there = there; free = free }) agrees (at_begins (at_row f.body fits.body (whole_room t m f) (λ lt. free (omega (arith, lt))) at_leaves)) (no_callers m f there gives)))
 
   main_begins : (m : ℕ) → m ≡ t.main → Same t (begins_if m argument (slice_get t.funcs m)) ((program_of (lowered t)).begins m argument)
   main_begins m e =

@@ -23,6 +23,9 @@ decreases-stmt l = goal.size-stmt l * 8
 abbrev pub decreases-row_of : goal.decreases-row_of
 decreases-row_of l = goal.size-row_of l * 8 + 1
 
+abbrev pub decreases-for_step : goal.decreases-for_step
+decreases-for_step l = the_size l.step.now * 8 + 1
+
 abbrev pub decreases-while_round : goal.decreases-while_round
 decreases-while_round l = goal.size-while_round l * 8 + 1
 
@@ -35,7 +38,10 @@ abbrev pub decreases-row : goal.decreases-row
 decreases-row l = goal.size-row l * 8 + 3
 
 abbrev pub decreases-block : goal.decreases-block
-decreases-block l = goal.size-block l * 8 + 4
+decreases-block l = goal.size-block l * 8 + 5
+
+abbrev pub decreases-block_with : goal.decreases-block_with
+decreases-block_with l = goal.size-block_with l * 8 + 4
 
 abbrev pub decreases-if_alone : goal.decreases-if_alone
 decreases-if_alone l = goal.size-if_alone l * 8 + 2
@@ -50,7 +56,10 @@ abbrev pub decreases-while_loop : goal.decreases-while_loop
 decreases-while_loop l = goal.size-while_loop l * 8 + 2
 
 abbrev pub decreases-for_loop : goal.decreases-for_loop
-decreases-for_loop l = max (the_size l.first.now) (max (the_size l.body.now) (the_size l.step.now)) * 8 + 3
+decreases-for_loop l = max (the_size l.first.now) (max (the_size l.body.now) (the_size l.step.now)) * 8 + 4
+
+abbrev pub decreases-for_in : goal.decreases-for_in
+decreases-for_in l = max (the_size l.first.now) (max (the_size l.body.now) (the_size l.step.now)) * 8 + 3
 
 -- ---- a switch, and a statement under its flag
 

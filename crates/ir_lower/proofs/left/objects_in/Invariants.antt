@@ -2,7 +2,7 @@ use Rattle.std.proofs.Common.{◌≡◌, ◌++◌, map, drop}
 use Rattle.c_tree.specs.TypedViews.{stmt_view}
 use Rattle.lower_forms.specs.Forms.{objects_in}
 use Rattle.lower_expressions.specs.FrameViews.{frame_view}
-use Rattle.ir_lower.proofs.statements.objects_in.Given as goal
+use Rattle.ir_lower.proofs.left.objects_in.Given as goal
 use Rattle.c_tree.specs.Typed.{stmts_of}
 
 -- so far
