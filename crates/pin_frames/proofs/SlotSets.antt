@@ -1,21 +1,14 @@
 -- Registers and their slots, and the numbers in sets of slots.
-use Rattle.std.proofs.Common.{◌≡◌, ◌≢◌, ◌<◌, ◌≤◌, ◌+◌, ◌-◌, ◌*◌, ◌/◌, ◌%◌, ◌^◌, nat_eq, ℕ, zero, suc, List, [], ◌∷◌, ◌++◌, length, get_or, drop, map, Option, Some, None, Bool, true, false, ◌==◌, ◌||◌, ◌&&◌, if◌then◌else◌, append_assoc, inl, inr, refl, sym, ap, subst, ◌∙◌, arith}
-use Rattle.std.specs.Prelude.{not}
-use Rattle.std.proofs.lemmas.Bool.{eqb-true, eq-eqb, ne_eqb, cases_eq, cases_lt}
-use Rattle.std.proofs.lemmas.Nat.Bits.{bit_at-zero, bit_at_above}
+use Rattle.std.proofs.Common.{◌≡◌, ◌≢◌, ◌<◌, ◌≤◌, ◌+◌, ◌-◌, ◌*◌, ◌/◌, ◌%◌, ◌^◌, nat_eq, ℕ, zero, suc, List, [], ◌∷◌, ◌++◌, length, get_or, Bool, true, false, if◌then◌else◌, append_assoc, inl, inr, refl, sym, ap, subst, ◌∙◌, arith}
+use Rattle.std.proofs.lemmas.Bool.{eq-eqb, ne_eqb, cases_lt}
+use Rattle.std.proofs.lemmas.Nat.Bits.{bit_at_above}
 use Rattle.std.proofs.lemmas.Nat.{pow_pos}
 use Rattle.std.proofs.Math.Nat.{mod-lt, mod-add-div}
 use Rattle.std.specs.Int.{bit_at}
-use Rattle.std.proofs.lemmas.List.{at_drop_more}
-use Rattle.struct_ir.specs.declared.code.Place.{Place as CodePlace}
-use Rattle.struct_ir.specs.Views.{place_view}
-use Rattle.pin_flow.specs.Slots.{slot_if, slot_in, one_more, IsIn}
-use Rattle.pin_flow.specs.Live.{is_slot, has as has_use}
-use Rattle.pin_flow.proofs.Strip.{by_bool}
+use Rattle.pin_flow.specs.Slots.{slot_in, IsIn}
 use Rattle.pin_flow.proofs.Bases.{slot_known}
 use Rattle.mark_sets.specs.Words.{has}
-use Rattle.mark_sets.specs.declared.homes.Homes.{Homes}
-use Rattle.mark_sets.specs.Homes.{AreOnce, IsHome, AreHomes, Tells}
+use Rattle.mark_sets.specs.Homes.{AreOnce, Tells}
 use Rattle.pin_frames.specs.inner.Together.{numbers, slots_for}
 use Rattle.pin_frames.proofs.Kept.{slots_same}
 

@@ -1,10 +1,9 @@
 -- Rows that get their lists from behind, all registers at once.
-use Rattle.std.proofs.Common.{◌≡◌, ◌%◌, nat_eq, ◌<◌, ◌≤◌, ◌+◌, ℕ, zero, suc, List, [], ◌∷◌, ◌++◌, length, take, drop, get_or, set, take_all, drop_of_length-le, append-nil, append_assoc, Some, Result, IfOk, Bool, true, false, ◌||◌, ◌&&◌, refl, sym, ap, subst, ◌∙◌, arith}
+use Rattle.std.proofs.Common.{◌≡◌, ◌<◌, ◌≤◌, ◌+◌, ℕ, zero, suc, List, [], ◌∷◌, ◌++◌, length, take, drop, get_or, set, take_all, drop_of_length-le, append-nil, append_assoc, Some, Result, IfOk, Bool, true, false, ◌||◌, ◌&&◌, refl, sym, ap, subst, ◌∙◌, arith}
 use Rattle.std.specs.Prelude.{not}
 use Rattle.std.specs.Global.{Vec}
 use Rattle.std.proofs.lemmas.Result.{IfOk-weaker}
 use Rattle.std.proofs.lemmas.List.{take_more, at_drop_more, length-take-le}
-use Rattle.std.proofs.lemmas.Nat.Bits.{bit_at-zero}
 use Rattle.struct_ir.specs.declared.code.Node.{Node as CodeNode}
 use Rattle.struct_ir.specs.declared.code.NodeKind.{NodeKind}
 use Rattle.struct_ir.specs.declared.code.NodeKind.TheViews as views
@@ -14,7 +13,7 @@ use Rattle.struct_ir.specs.Views.{kind_view, node_view, nodes_view}
 use Rattle.struct_ir.proofs.Views.{if_is, if_view, loop_is, loop_view}
 use Rattle.pin_flow.specs.Slots.{slot_if, slot_in}
 use Rattle.pin_flow.specs.Views.{act_is, looks_slot}
-use Rattle.pin_flow.specs.Live.{uses, Live, lives, live, live_node, head_live, latch_live, body_lives, latch_lives}
+use Rattle.pin_flow.specs.Live.{uses, Live, lives, live, head_live, body_lives, latch_lives}
 use Rattle.pin_flow.proofs.FlowRows.{is_plain}
 use Rattle.pin_flow.proofs.Bases.{slot_known}
 use Rattle.mark_sets.specs.Words.{has}
@@ -22,7 +21,7 @@ use Rattle.mark_sets.specs.declared.from_behind.Walked.{Walked}
 use Rattle.pin_frames.specs.inner.Place.{rest_lives, listed, none_held, none_later}
 use Rattle.mark_sets.specs.Homes.{Tells, lives_in, node_keeps}
 use Rattle.pin_frames.specs.inner.Together.{slots_for, used_listed, used_listed_in, node_listing, Kept, KeptIn, AreKept, AreKeptIn, AreKeptLoop}
-use Rattle.mark_sets.proofs.LiveRows.{live_start, live_act_at}
+use Rattle.mark_sets.proofs.LiveRows.{live_start}
 use Rattle.mark_sets.proofs.HomeSlots.{has_nothing}
 use Rattle.mark_sets.proofs.Told.{lives_told, in_latch, in_body}
 use Rattle.pin_frames.proofs.Kept.{used_same, in_same, listed_used}

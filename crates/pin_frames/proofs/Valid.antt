@@ -1,15 +1,13 @@
 -- Code with safepoints and lists is valid where the code without them is.
-use Rattle.std.proofs.Common.{◌≡◌, ℕ, zero, suc, ◌<◌, List, [], ◌∷◌, ◌++◌, length, Bool, true, ◌==◌, ◌||◌, ◌&&◌, if◌then◌else◌, inl, inr, refl, sym, subst, arith}
+use Rattle.std.proofs.Common.{◌≡◌, ℕ, ◌<◌, List, [], ◌∷◌, length, Bool, true, ◌==◌, ◌||◌, ◌&&◌, if◌then◌else◌, inl, inr, refl, sym, subst}
 use Rattle.std.proofs.lemmas.Bool.{and_from, and_parts, lt-ltb}
 use Rattle.struct_ir.specs.Nodes.{Act, set, call, step, look, safepoint, begin_object, end_object, may_wait, Node, plain, if_, loop, break_, next_, ret, Nodes, no_nodes, more_nodes}
 use Rattle.std.specs.List.{list_all}
 use Rattle.struct_ir.specs.Pins.{lacks}
 use Rattle.struct_ir.specs.Valid.{Scope, Around, body_of, latch_of, are_below, is_distinct, is_list, is_own_list, is_place, is_below_if, has_counts, counts_of, is_action, is_act, is_node, are_nodes}
 use Rattle.pin_flow.specs.Marks.{AllPaths}
-use Rattle.pin_flow.specs.Looks.{some_act}
 use Rattle.pin_flow.specs.Live.{Live, live_act, body_lives, latch_lives}
-use Rattle.pin_flow.specs.Slots.{accesses, bases_below, IsIn, AreApart}
-use Rattle.pin_flow.proofs.Registers.{in_parts, base_below}
+use Rattle.pin_flow.specs.Slots.{IsIn, AreApart}
 use Rattle.pin_flow.proofs.Strip.{by_bool}
 use Rattle.pin_frames.specs.inner.Place.{stop, act_seats, seats, seated, seated_in, wanted, act_listing, list_for, heads, turns, on_states, rest_lives, listed, listed_in}
 use Rattle.mark_sets.specs.Homes.{AreOnce}

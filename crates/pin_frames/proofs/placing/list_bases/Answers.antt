@@ -40,13 +40,12 @@ list_together-requires c =
     let o = c.in_ok-outline.outline in
     let code = c.in_ok-code.code.items in
     let again : nodes_view c.deref.result.now ≡ nodes_view c.deref-2.result.now = ap nodes_view (c.deref.ensures.value ∙ sym c.deref-2.ensures.value) in
-    let same = c.in_ok-outline.ensures.homes in (
-      subst AreHomes (sym same) c.in_ok-homes.ensures.homes,
-      (
-        c.in_ok-outline.ensures.count ∙ ap loops again,
-        subst (λ y. y) (λ j. AreHeads (sym same j).bases.items o.heads.items 0 (again j)) c.in_ok-outline.ensures.heads,
-      ),
-    )
+    let same = c.in_ok-outline.ensures.homes in
+    record {
+      homes = subst AreHomes (sym same) c.in_ok-homes.ensures.homes;
+      count = c.in_ok-outline.ensures.count ∙ ap loops again;
+      heads = subst (λ y. y) (λ j. AreHeads (sym same j).bases.items o.heads.items 0 (again j)) c.in_ok-outline.ensures.heads;
+    }
 
 pub list_in_turn-requires : goal.list_in_turn-requires
 list_in_turn-requires c =

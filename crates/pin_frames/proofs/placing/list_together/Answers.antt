@@ -19,7 +19,11 @@ list_row-requires c =
     let e : nodes_view c.deref_mut.result.now ≡ nodes_view c.args.code.now = ap nodes_view c.deref_mut.ensures.value ∙ c.in_ok-rows.ensures in
     let l = ap loops e in
     let n = c.requires.count in
-    (c.requires.homes, (omega (arith, l, n), subst (λ y. AreHeads o.homes.bases.items o.heads.items 0 y) (sym e) c.requires.heads))
+    record {
+      homes = c.requires.homes;
+      within = omega (arith, l, n);
+      heads = subst (λ y. AreHeads o.homes.bases.items o.heads.items 0 y) (sym e) c.requires.heads;
+    }
 
 pub returns-then-is_empty : goal.returns-then-is_empty
 returns-then-is_empty c =
