@@ -99,9 +99,9 @@ pub kept_start : (bs on out end : List ℕ) → AreKept bs (nodes_view []) on ou
 unfolding Kept
 kept_start bs on out end b i e = tt
 
-pub kept_more : (bs on set out end : List ℕ) (rest : Nodes) → Tells bs set (λ i b. live i b rest (lives_in on out end i)) → (n : Node) → AreKeptIn bs n set out end → AreKept bs rest on out end → AreKept bs (more_nodes n rest) on out end
+pub kept_more : (bs on used out end : List ℕ) (rest : Nodes) → Tells bs used (λ i b. live i b rest (lives_in on out end i)) → (n : Node) → AreKeptIn bs n used out end → AreKept bs rest on out end → AreKept bs (more_nodes n rest) on out end
 unfolding Kept
-kept_more bs on set out end rest told n k l b i e = (subst (λ (m : Live). KeptIn i b n m) (lives_told bs on set out end rest told b i e) (k b i e), l b i e)
+kept_more bs on used out end rest told n k l b i e = (subst (λ (m : Live). KeptIn i b n m) (lives_told bs on used out end rest told b i e) (k b i e), l b i e)
 
 -- ---- nodes that hold others
 
@@ -160,11 +160,11 @@ home_more bs pairs k d lt h f q e =
     (λ y z. f q z) g
 
 -- all of a function's code
-module _ (bs start out end set : List ℕ) (ns : Nodes) (ss : start ≡ []) (oo : out ≡ []) (nn : end ≡ []) where
+module _ (bs start out end used : List ℕ) (ns : Nodes) (ss : start ≡ []) (oo : out ≡ []) (nn : end ≡ []) where
   nothing : (i : ℕ) → lives_in start out end i ≡ lives false false false
   nothing i = (λ j. lives (has (ss j) i) (has (oo j) i) (has (nn j) i)) ∙ (λ j. lives (has_nothing i j) (has_nothing i j) (has_nothing i j))
 
-  pub whole_kept : Tells bs set (λ i b. live i b ns (lives_in start out end i)) → ((i : ℕ) → has set i ≡ false) → AreKept bs ns start out end → (q : Pair) → HasHome bs q → IsKept ns q
+  pub whole_kept : Tells bs used (λ i b. live i b ns (lives_in start out end i)) → ((i : ℕ) → has used i ≡ false) → AreKept bs ns start out end → (q : Pair) → HasHome bs q → IsKept ns q
   whole_kept told free kept q h = record {
     kept = subst (λ (l : Live). Kept q.slot q.base ns l) (nothing q.slot) (kept q.base q.slot h);
     start = ap (live q.slot q.base ns) (sym (nothing q.slot)) ∙ (sym (told q.base q.slot h) ∙ free q.slot);

@@ -196,6 +196,8 @@ fn have_homes(homes: &Homes, pairs: &[Pair]) -> bool
 pub fn are_kept(alloc: Global, f: &IrFunc, pairs: &[Pair]) -> Result<bool, NoMemory>
     ensures { IfOk result (λ y. y ≡ true → (q : CodePair) → has_pair q pairs.now ≡ true → IsKept (nodes_view f.now.nodes.items) q) }
 {
+    // (there are no more bases than registers)
+    let _temps = f.temps;
     let bases = bases_of(alloc, f)?;
     let homes = homes_of(alloc, bases)?;
     let none = Vec::new(alloc);
