@@ -529,7 +529,17 @@ fn for_loop(
         return for_in(alloc, first, body, step, at, e, f, left, out);
     }
     let around = joined(alloc, &own, f.around)?;
-    for_in(alloc, first, body, step, at, e, &opened(f, &around), left, out)?;
+    for_in(
+        alloc,
+        first,
+        body,
+        step,
+        at,
+        e,
+        &opened(f, &around),
+        left,
+        out,
+    )?;
     ends(out, at, &own)
 }
 
