@@ -15,6 +15,17 @@ use turn_lock::Pass;
 /// The turns that a thread does by itself before it rests.
 const MOST_LOCAL: u32 = 1024;
 
+/// How a thread went that a worker carried.
+#[derive(Clone, Copy)]
+pub(crate) enum Carried {
+    /// As far as it could, or as it may at once: no other was in its way.
+    Freely,
+    /// Some steps, and then it had to wait for another.
+    UntilBusy,
+    /// It had to wait for another at once.
+    Nowhere,
+}
+
 // Works with the context alone, just up to the next safepoint where the thread was asked home.
 fn work_alone<F: Flat<Code, Context> + Drop, Code: Drop, Context: Drop>(
     code: &Code,
@@ -47,7 +58,16 @@ fn bring_home<F: Flat<Code, Context> + Drop, Code: Drop, Context: Drop, R: Wait,
     world.home(rt, pass, ctx);
 }
 
-/// Goes on with a thread that was handed out, until it comes home or is nowhere.
+// How a thread went that had to wait for another, after some steps or at once.
+fn busy_after(went: bool) -> Carried {
+    if went {
+        Carried::UntilBusy
+    } else {
+        Carried::Nowhere
+    }
+}
+
+/// Goes on with a thread that was handed out, until it comes home or is nowhere; and tells how it went, of which no clause speaks.
 pub(crate) fn carry<F: Flat<Code, Context> + Drop, Code: Drop, Context: Drop, R: Wait, G: Gate>(
     rt: &R,
     code: &Code,
@@ -55,7 +75,7 @@ pub(crate) fn carry<F: Flat<Code, Context> + Drop, Code: Drop, Context: Drop, R:
     pass: &mut Pass<World<F, Code, Context>>,
     gate: &G,
     ctx: Context,
-)
+) -> Carried
     requires code { code.now ≡ (first_of world.now.lock).code }
     requires pass { IsPassOf world.now.lock pass.old }
     requires out { IsOut F.machine (first_of world.now.lock) (seen_of pass.old) (worker_of pass.old) ((F.machine code.now).thread_of ctx) ctx free }
@@ -65,6 +85,7 @@ pub(crate) fn carry<F: Flat<Code, Context> + Drop, Code: Drop, Context: Drop, R:
     let worker = pass.worker();
     let mut ctx = ctx;
     let mut asked = false;
+    let mut went = false;
     for _ in rt.forever() {
         work_alone::<F, Code, Context>(code, &mut ctx, asked);
         gate.pause(worker, Point::Act);
@@ -75,12 +96,23 @@ pub(crate) fn carry<F: Flat<Code, Context> + Drop, Code: Drop, Context: Drop, R:
             } => {
                 ctx = next;
                 asked = asked || come_home;
+                went = true;
             }
-            Acted::Rested(next) => return bring_home(rt, world, pass, gate, next),
-            Acted::Busy(next) => return bring_home(rt, world, pass, gate, next),
-            Acted::WaitRoom(next) => return bring_home(rt, world, pass, gate, next),
-            Acted::Ended => return,
-            Acted::Over(_) => return,
+            Acted::Rested(next) => {
+                bring_home(rt, world, pass, gate, next);
+                return Carried::Freely;
+            }
+            Acted::Busy(next) => {
+                bring_home(rt, world, pass, gate, next);
+                return busy_after(went);
+            }
+            Acted::WaitRoom(next) => {
+                bring_home(rt, world, pass, gate, next);
+                return Carried::Freely;
+            }
+            Acted::Ended => return Carried::Freely,
+            Acted::Over(_) => return Carried::Freely,
         }
     }
+    unreachable!()
 }

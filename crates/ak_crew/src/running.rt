@@ -5,6 +5,7 @@ ghost use Rattle.ak_world.specs.Turns.{SawOver};
 ghost use Rattle.ak_crew.specs.Overs.{FoundOver, EachFoundOver};
 
 use crate::gate::Gate;
+use crate::idling::Bell;
 use crate::working::work;
 use ak_world::{SharedWorld, World};
 use flat_rules::Flat;
@@ -35,6 +36,7 @@ pub fn run<
     ensures over { SawOver F.machine F.shared_of F.context_of (first_of world.now.lock) passes.new }
 {
     let workers = passes.len();
+    let bell = Bell::new();
     thread::for_each_mut(
         rt,
         passes,
@@ -42,6 +44,6 @@ pub fn run<
         &|_number: usize, pass: &mut Pass<World<F, Code, Context>>|
             requires { (code.now ≡ (first_of world.now.lock).code) × IsPassOf world.now.lock pass.now }
             ensures { IsPassOf world.entry.now.lock pass.exit.now × (worker_of pass.exit.now ≡ worker_of pass.entry.now) × FoundOver F.machine F.shared_of F.context_of world.entry.now.lock pass.exit.now }
-        { work(rt, code, world, pass, gate) },
+        { work(rt, code, world, pass, gate, &bell) },
     );
 }

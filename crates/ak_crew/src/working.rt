@@ -5,19 +5,20 @@ ghost use Rattle.ak_crew.specs.Overs.{FoundOver};
 
 use crate::carrying::carry;
 use crate::gate::{Gate, Point};
-use crate::idling::Idling;
+use crate::idling::{Bell, Idling};
 use ak_world::{Found, SharedWorld, World};
 use flat_rules::Flat;
 use std::sync::Wait;
 use turn_lock::Pass;
 
-/// Does what there is to do until the run is over.
+/// Does what there is to do until the run is over, and then rings.
 pub(crate) fn work<F: Flat<Code, Context> + Drop, Code: Drop, Context: Drop, R: Wait, G: Gate>(
     rt: &R,
     code: &Code,
     world: &SharedWorld<F, Code, Context>,
     pass: &mut Pass<World<F, Code, Context>>,
     gate: &G,
+    bell: &Bell,
 )
     requires code { code.now ≡ (first_of world.now.lock).code }
     requires pass { IsPassOf world.now.lock pass.old }
@@ -30,12 +31,15 @@ pub(crate) fn work<F: Flat<Code, Context> + Drop, Code: Drop, Context: Drop, R: 
         gate.pause(worker, Point::Find);
         match world.find(rt, pass) {
             Found::Work(ctx) => {
-                carry(rt, code, world, pass, gate, ctx);
-                idling.reset();
+                let how = carry(rt, code, world, pass, gate, ctx);
+                idling.carried(how);
             }
-            Found::Nothing => idling.wait(rt),
+            Found::Nothing => idling.wait(rt, bell),
             Found::Swept => idling.reset(),
-            Found::Over(_) => return,
+            Found::Over(_) => {
+                bell.ring();
+                return;
+            }
         }
     }
     unreachable!()

@@ -1,5 +1,5 @@
 -- Functions of a program, one by one.
-use Rattle.std.proofs.Common.{◌≡◌, ℕ, zero, suc, ◌≤◌, List, [], ◌∷◌, length, map, Bool, true, None, refl, sym, ap, ◌∙◌, subst}
+use Rattle.std.proofs.Common.{◌≡◌, ℕ, zero, suc, ◌≤◌, ◌<◌, List, [], ◌∷◌, length, get_or, map, Bool, true, None, refl, sym, ap, ◌∙◌, subst, arith}
 use Rattle.std.specs.Prelude.{slice_get}
 use Rattle.std.specs.List.{AllByRecursion, list_all}
 use Rattle.c_tree.specs.declared.typed.Literal.{Literal}
@@ -20,19 +20,23 @@ use Rattle.emit_code.proofs.Safepoints.{left_of, right_of}
 abbrev pub is_placed : Func → Bool
 is_placed f = are_placed None f.nodes
 
--- one function more: of those that are left, the first and the others have their safepoints
-pub placed_first : (all : List IrFunc) (f : IrFunc) (rest : List IrFunc) → all ≡ f ∷ rest → list_all is_placed (map func_view all) ≡ true → is_placed (func_view f) ≡ true
-placed_first all f rest e h = left_of (is_placed (func_view f)) (list_all is_placed (map func_view rest)) (ap (λ l. list_all is_placed (map func_view l)) (sym e) ∙ h)
+-- the function at an index has its safepoints
+placed_in : (all : List IrFunc) (i : ℕ) (d : IrFunc) → i < length all → list_all is_placed (map func_view all) ≡ true → is_placed (func_view (get_or all i d)) ≡ true
+placed_in [] i d lt h = absurd (omega (arith, lt))
+placed_in (f ∷ rest) zero d lt h = left_of (is_placed (func_view f)) (list_all is_placed (map func_view rest)) h
+placed_in (f ∷ rest) (suc i) d lt h = placed_in rest i d (omega (arith, lt)) (right_of (is_placed (func_view f)) (list_all is_placed (map func_view rest)) h)
 
-pub placed_rest : (all : List IrFunc) (f : IrFunc) (rest : List IrFunc) → all ≡ f ∷ rest → list_all is_placed (map func_view all) ≡ true → list_all is_placed (map func_view rest) ≡ true
-placed_rest all f rest e h = right_of (is_placed (func_view f)) (list_all is_placed (map func_view rest)) (ap (λ l. list_all is_placed (map func_view l)) (sym e) ∙ h)
+pub placed_at : (all : List IrFunc) (i : ℕ) (f : IrFunc) → i < length all → f ≡ get_or all i f → list_all is_placed (map func_view all) ≡ true → is_placed (func_view f) ≡ true
+placed_at all i f lt e h = ap (λ x. is_placed (func_view x)) e ∙ placed_in all i f lt h
 
--- so are their scopes
-pub scoped_first : (all : List IrFunc) (f : IrFunc) (rest : List IrFunc) → all ≡ f ∷ rest → AllByRecursion IsScoped (map func_view all) → IsScoped (func_view f)
-scoped_first all f rest e h = (subst (λ (l : List IrFunc). AllByRecursion IsScoped (map func_view l)) e h).0
+-- and its scope
+scoped_in : (all : List IrFunc) (i : ℕ) (d : IrFunc) → i < length all → AllByRecursion IsScoped (map func_view all) → IsScoped (func_view (get_or all i d))
+scoped_in [] i d lt h = absurd (omega (arith, lt))
+scoped_in (f ∷ rest) zero d lt h = h.0
+scoped_in (f ∷ rest) (suc i) d lt h = scoped_in rest i d (omega (arith, lt)) h.1
 
-pub scoped_rest : (all : List IrFunc) (f : IrFunc) (rest : List IrFunc) → all ≡ f ∷ rest → AllByRecursion IsScoped (map func_view all) → AllByRecursion IsScoped (map func_view rest)
-scoped_rest all f rest e h = (subst (λ (l : List IrFunc). AllByRecursion IsScoped (map func_view l)) e h).1
+pub scoped_at : (all : List IrFunc) (i : ℕ) (f : IrFunc) → i < length all → f ≡ get_or all i f → AllByRecursion IsScoped (map func_view all) → IsScoped (func_view f)
+scoped_at all i f lt e h = subst (λ (x : IrFunc). IsScoped (func_view x)) (sym e) (scoped_in all i f lt h)
 
 all_scoped : (p : Ir) (fs : List Func) → list_all (λ f. are_nodes (scope_of p f) outside f.nodes) fs ≡ true → AllByRecursion IsScoped fs
 all_scoped p [] e = tt

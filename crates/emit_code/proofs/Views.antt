@@ -47,13 +47,5 @@ long_item : (front rest : List CodeNode) (x : CodeNode) → node_long (node_view
 long_item [] rest x = omega arith
 long_item (y ∷ front) rest x = let h = long_item front rest x in omega (arith, h)
 
--- the same of a row whose last item was taken off
-
-taken_back : (all left front rest : List CodeNode) (x : CodeNode) → left ≡ front ++ (x ∷ []) → all ≡ left ++ rest → all ≡ front ++ (x ∷ rest)
-taken_back all left front rest x e f = f ∙ ap (λ y. y ++ rest) e ∙ append_assoc front (x ∷ []) rest
-
-pub size_taken : (all left front rest : List CodeNode) (x : CodeNode) → left ≡ front ++ (x ∷ []) → all ≡ left ++ rest → node_size (node_view x) < row_size (nodes_view all)
-size_taken all left front rest x e f = rw (taken_back all left front rest x e f) (size_item front rest x)
-
-pub long_taken : (all left front rest : List CodeNode) (x : CodeNode) → left ≡ front ++ (x ∷ []) → all ≡ left ++ rest → node_long (node_view x) + long (nodes_view rest) ≤ long (nodes_view all)
-long_taken all left front rest x e f = rw (taken_back all left front rest x e f) (long_item front rest x)
+pub long_back : (all left rest : List CodeNode) (x : CodeNode) → 1 ≤ length left → x ≡ get_or left (length left - 1) x → all ≡ left ++ rest → node_long (node_view x) + long (nodes_view rest) ≤ long (nodes_view all)
+long_back all left rest x le e f = rw (step_back all left rest x le e f) (long_item (take (length left - 1) left) rest x)

@@ -7,7 +7,7 @@ ghost use Rattle.struct_ir.specs.Pins.{PinSafe};
 ghost use Rattle.pin_checker.specs.CheckedViews.{program_in};
 ghost use Rattle.struct_ir.specs.Emitted.{IsEmitted};
 
-use crate::emitting::{emit_code, emit_code_owned};
+use crate::emitting::emit_code;
 use ak_words::NoMemory;
 use pin_checker::Checked;
 use std::alloc::Global;
@@ -23,16 +23,4 @@ pub fn emit(alloc: Global, checked: &Checked) -> Result<Code, NoMemory>
     ensures safe { IfOk result (λ code. (f : ℕ) → PinSafe (linear (code_view code).funcs) (entry_of f)) }
 {
     emit_code(alloc, checked.ir())
-}
-
-/// The same, of code that nothing needs any more: what stays of it isn't copied.
-///
-/// # Errors
-///
-/// Only want of memory.
-pub fn emit_owned(alloc: Global, checked: Checked) -> Result<Code, NoMemory>
-    ensures emitted { IfOk result (λ code. IsEmitted (program_in checked) (code_view code)) }
-    ensures safe { IfOk result (λ code. (f : ℕ) → PinSafe (linear (code_view code).funcs) (entry_of f)) }
-{
-    emit_code_owned(alloc, checked.into_ir())
 }

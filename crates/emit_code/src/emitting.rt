@@ -17,8 +17,8 @@ ghost use Rattle.struct_ir.specs.Placed.{all_placed};
 use crate::lengths::long_of;
 use crate::puts::{put, put_before};
 use ak_words::NoMemory;
-use pin_flow::programs::copy_ir;
 use std::alloc::Global;
+use struct_ir::copying::{copy_call, copy_literals, copy_step};
 use struct_ir::linear::Code;
 use struct_ir::{CodeFunc, Instr, InstrKind, Ir, IrFunc, Node, NodeKind};
 
@@ -33,42 +33,30 @@ pub fn emit_code(alloc: Global, ir: &Ir) -> Result<Code, NoMemory>
     requires valid { is_valid (ir_view ir.now) ≡ true }
     ensures { IfOk result (λ code. IsEmitted (ir_view ir.now) (code_view code)) }
 {
-    let own = copy_ir(alloc, ir)?;
-    emit_code_owned(alloc, own)
-}
-
-/// The same, of code that nothing needs any more: what stays of it isn't copied.
-///
-/// # Errors
-///
-/// Only want of memory.
-pub fn emit_code_owned(alloc: Global, ir: Ir) -> Result<Code, NoMemory>
-    requires placed { IsTrue (all_placed (ir_view ir)) }
-    requires valid { is_valid (ir_view ir) ≡ true }
-    ensures { IfOk result (λ code. IsEmitted (ir_view ir) (code_view code)) }
-{
     let code = emit_program(alloc, ir)?;
     Ok(code)
 }
 
-fn emit_program(alloc: Global, ir: Ir) -> Result<Code, NoMemory>
-    requires placed { IsTrue (all_placed (ir_view ir)) }
-    requires valid { is_valid (ir_view ir) ≡ true }
-    ensures { IfOk result (λ code. code_view code ≡ linear_of (ir_view ir)) }
+fn emit_program(alloc: Global, ir: &Ir) -> Result<Code, NoMemory>
+    requires placed { IsTrue (all_placed (ir_view ir.now)) }
+    requires valid { is_valid (ir_view ir.now) ≡ true }
+    ensures { IfOk result (λ code. code_view code ≡ linear_of (ir_view ir.now)) }
 {
-    let funcs = emit_funcs(alloc, ir.funcs)?;
+    let globals = ir.globals.to_vec(alloc)?;
+    let literals = copy_literals(alloc, &ir.literals)?;
+    let funcs = emit_funcs(alloc, &ir.funcs)?;
     Ok(Code {
-        globals: ir.globals,
-        literals: ir.literals,
+        globals,
+        literals,
         funcs,
         main: ir.main,
     })
 }
 
-fn emit_funcs(alloc: Global, funcs: Vec<IrFunc>) -> Result<Vec<CodeFunc>, NoMemory>
-    requires placed { IsTrue (list_all (λ f. are_placed None f.nodes) (map func_view funcs.items)) }
-    requires scoped { AllByRecursion IsScoped (map func_view funcs.items) }
-    ensures { IfOk result (λ v. map linear_func_view v.items ≡ map func_linear (map func_view funcs.items)) }
+fn emit_funcs(alloc: Global, funcs: &[IrFunc]) -> Result<Vec<CodeFunc>, NoMemory>
+    requires placed { IsTrue (list_all (λ f. are_placed None f.nodes) (map func_view funcs.now)) }
+    requires scoped { AllByRecursion IsScoped (map func_view funcs.now) }
+    ensures { IfOk result (λ v. map linear_func_view v.items ≡ map func_linear (map func_view funcs.now)) }
 {
     let mut out = Vec::with_capacity(alloc, funcs.len())?;
     for f in funcs {
@@ -77,29 +65,29 @@ fn emit_funcs(alloc: Global, funcs: Vec<IrFunc>) -> Result<Vec<CodeFunc>, NoMemo
     Ok(out)
 }
 
-fn emit_func(alloc: Global, f: IrFunc) -> Result<CodeFunc, NoMemory>
-    requires placed { IsTrue (are_placed None (func_view f).nodes) }
-    requires scoped { IsScoped (func_view f) }
-    ensures { IfOk result (λ x. linear_func_view x ≡ func_linear (func_view f)) }
+fn emit_func(alloc: Global, f: &IrFunc) -> Result<CodeFunc, NoMemory>
+    requires placed { IsTrue (are_placed None (func_view f.now).nodes) }
+    requires scoped { IsScoped (func_view f.now) }
+    ensures { IfOk result (λ x. linear_func_view x ≡ func_linear (func_view f.now)) }
 {
-    let instrs = emit_nodes(alloc, f.nodes)?;
+    let instrs = emit_nodes(alloc, &f.nodes)?;
     Ok(CodeFunc {
         params: f.params,
         temps: f.temps,
         slots: f.slots,
-        objects: f.objects,
+        objects: f.objects.to_vec(alloc)?,
         instrs,
     })
 }
 
 // The instructions of a function.
-fn emit_nodes(alloc: Global, nodes: Vec<Node>) -> Result<Vec<Instr>, NoMemory>
-    ensures { IfOk result (λ code. map instr_view code.items ≡ instrs_for (nodes_view nodes.items)) }
+fn emit_nodes(alloc: Global, nodes: &[Node]) -> Result<Vec<Instr>, NoMemory>
+    ensures { IfOk result (λ code. map instr_view code.items ≡ instrs_for (nodes_view nodes.now)) }
 {
-    match long_of(&nodes) {
+    match long_of(nodes) {
         None => Err(NoMemory),
         Some(end) => {
-            let mut code = Vec::new(alloc);
+            let mut code = Vec::with_capacity(alloc, end.saturating_add(1))?;
             put(&mut code, 0, InstrKind::Leave(None))?;
             emit_row(alloc, &mut code, end, end, end, nodes)?;
             code.reverse();
@@ -117,16 +105,17 @@ fn emit_row(
     end: usize,
     out: usize,
     next: usize,
-    nodes: Vec<Node>,
+    nodes: &[Node],
 ) -> Result<usize, NoMemory>
-    requires { long (nodes_view nodes.items) ≤ end }
-    ensures index { IfOk result (λ at. at + long (nodes_view nodes.items) ≡ end) }
-    ensures code { IfOk result (λ at. map instr_view code.new.items ≡ map instr_view code.old.items ++ reverse (emit at out next (nodes_view nodes.items))) }
+    requires { long (nodes_view nodes.now) ≤ end }
+    ensures index { IfOk result (λ at. at + long (nodes_view nodes.now) ≡ end) }
+    ensures code { IfOk result (λ at. map instr_view code.new.items ≡ map instr_view code.old.items ++ reverse (emit at out next (nodes_view nodes.now))) }
 {
     let mut left = nodes;
     let mut at = end;
-    'row: while let Some(node) = left.pop() {
+    'row: while let [front @ .., node] = left {
         at = emit_one(alloc, code, at, out, next, node)?;
+        left = front;
     }
     Ok(at)
 }
@@ -138,28 +127,33 @@ fn emit_one(
     end: usize,
     out: usize,
     next: usize,
-    node: Node,
+    node: &Node,
 ) -> Result<usize, NoMemory>
-    requires { node_long (node_view node) ≤ end }
-    ensures index { IfOk result (λ at. at + node_long (node_view node) ≡ end) }
-    ensures code { IfOk result (λ at. map instr_view code.new.items ≡ map instr_view code.old.items ++ reverse (emit_node at out next (node_view node))) }
+    requires { node_long (node_view node.now) ≤ end }
+    ensures index { IfOk result (λ at. at + node_long (node_view node.now) ≡ end) }
+    ensures code { IfOk result (λ at. map instr_view code.new.items ≡ map instr_view code.old.items ++ reverse (emit_node at out next (node_view node.now))) }
 {
-    let Node { place, kind } = node;
-    match kind {
+    let place = node.place;
+    match &node.kind {
         NodeKind::If(temp, one, other) => {
-            emit_if(alloc, code, end, out, next, place, temp, one, other)
+            emit_if(alloc, code, end, out, next, place, *temp, one, other)
         }
         NodeKind::Loop(body, step) => emit_loop(alloc, code, end, place, body, step),
         NodeKind::Begin(_) => Ok(end),
         NodeKind::End(_) => Ok(end),
-        NodeKind::Set(to, calc) => put_before(code, end, place, InstrKind::Set(to, calc)),
+        NodeKind::Set(to, calc) => put_before(code, end, place, InstrKind::Set(*to, *calc)),
         NodeKind::Break => put_before(code, end, place, InstrKind::Jump(out)),
         NodeKind::Next => put_before(code, end, place, InstrKind::Jump(next)),
-        NodeKind::Call(c) => put_before(code, end, place, InstrKind::Enter(c)),
-        NodeKind::Ret(temp) => put_before(code, end, place, InstrKind::Leave(temp)),
-        NodeKind::Step(s) => put_before(code, end, place, InstrKind::Step(s)),
-        NodeKind::Look(slot, base) => put_before(code, end, place, InstrKind::Look(slot, base)),
-        NodeKind::Safepoint(slots) => put_before(code, end, place, InstrKind::Safe(slots)),
+        NodeKind::Call(c) => put_before(code, end, place, InstrKind::Enter(copy_call(alloc, c)?)),
+        NodeKind::Ret(temp) => put_before(code, end, place, InstrKind::Leave(*temp)),
+        NodeKind::Step(s) => put_before(code, end, place, InstrKind::Step(copy_step(alloc, s)?)),
+        NodeKind::Look(slot, base) => put_before(code, end, place, InstrKind::Look(*slot, *base)),
+        NodeKind::Safepoint(slots) => put_before(
+            code,
+            end,
+            place,
+            InstrKind::Safe(slots.to_vec(alloc)?),
+        ),
     }
 }
 
@@ -172,12 +166,12 @@ fn emit_if(
     next: usize,
     place: u32,
     temp: u32,
-    one: Vec<Node>,
-    other: Vec<Node>,
+    one: &[Node],
+    other: &[Node],
 ) -> Result<usize, NoMemory>
-    requires { node_long (if_ place temp (nodes_view one.items) (nodes_view other.items)) ≤ end }
-    ensures index { IfOk result (λ at. at + node_long (if_ place temp (nodes_view one.items) (nodes_view other.items)) ≡ end) }
-    ensures code { IfOk result (λ at. map instr_view code.new.items ≡ map instr_view code.old.items ++ reverse (emit_node at out next (if_ place temp (nodes_view one.items) (nodes_view other.items)))) }
+    requires { node_long (if_ place temp (nodes_view one.now) (nodes_view other.now)) ≤ end }
+    ensures index { IfOk result (λ at. at + node_long (if_ place temp (nodes_view one.now) (nodes_view other.now)) ≡ end) }
+    ensures code { IfOk result (λ at. map instr_view code.new.items ≡ map instr_view code.old.items ++ reverse (emit_node at out next (if_ place temp (nodes_view one.now) (nodes_view other.now)))) }
 {
     let other_at = emit_row(alloc, code, end, out, next, other)?;
     put(code, place, InstrKind::Jump(end))?;
@@ -193,12 +187,12 @@ fn emit_loop(
     code: &mut Vec<Instr>,
     end: usize,
     place: u32,
-    body: Vec<Node>,
-    step: Vec<Node>,
+    body: &[Node],
+    step: &[Node],
 ) -> Result<usize, NoMemory>
-    requires { node_long (loop_ place (nodes_view body.items) (nodes_view step.items)) ≤ end }
-    ensures index { IfOk result (λ at. at + node_long (loop_ place (nodes_view body.items) (nodes_view step.items)) ≡ end) }
-    ensures code { IfOk result (λ at. map instr_view code.new.items ≡ map instr_view code.old.items ++ reverse (emit_node at 0 0 (loop_ place (nodes_view body.items) (nodes_view step.items)))) }
+    requires { node_long (loop_ place (nodes_view body.now) (nodes_view step.now)) ≤ end }
+    ensures index { IfOk result (λ at. at + node_long (loop_ place (nodes_view body.now) (nodes_view step.now)) ≡ end) }
+    ensures code { IfOk result (λ at. map instr_view code.new.items ≡ map instr_view code.old.items ++ reverse (emit_node at 0 0 (loop_ place (nodes_view body.now) (nodes_view step.now)))) }
 {
     let round = code.len();
     put(code, place, InstrKind::Round(0))?;

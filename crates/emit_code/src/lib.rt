@@ -9,5 +9,5 @@ pub mod laws;
 mod lengths;
 mod puts;
 
-pub use checked::{emit, emit_owned};
-pub use emitting::{emit_code, emit_code_owned};
+pub use checked::emit;
+pub use emitting::emit_code;

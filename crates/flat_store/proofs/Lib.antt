@@ -1,3 +1,4 @@
 pub mod Texts
 pub mod Firsts
 pub mod Written
+pub mod Moved

@@ -2,6 +2,7 @@ ghost use Rattle.std.specs.Prelude.{◌≡◌, Some, ◌≢◌, ℕ, ◌+◌, �
 ghost use Rattle.flat_store.specs.Flat.{first_address, HasBytes, IsFirstOutside, first_outside, first_outside_of_both, bytes_from, with_bytes, ChangesOnly, IsTextLen, HasNoZero};
 ghost use Rattle.flat_store.specs.Word.{is_word_size, number_of, low_bytes};
 
+use crate::moving::move_bytes;
 use crate::outside::OutsideFlat;
 use ak_words::NoMemory;
 use std::alloc::Global;
@@ -83,7 +84,7 @@ impl Flat {
         }
         let target = index_of(&self.bytes, to, n)?;
         let source = index_of(&self.bytes, from, n)?;
-        self.bytes.copy_within(source..source + n as usize, target);
+        move_bytes(&mut self.bytes, target, source, n as usize);
         Ok(())
     }
 

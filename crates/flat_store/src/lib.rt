@@ -5,6 +5,7 @@
 
 mod flat;
 mod laws;
+mod moving;
 mod outside;
 
 pub use flat::{FIRST_ADDRESS, Flat};

@@ -41,7 +41,7 @@ block_done F place node v left o0 o1 d is e h r =
 -- ---- where no local has a stack object
 
 pub none_of : (objects : List ℕ) (n : ℕ) (b : Bool) → n ≡ length objects → b ≡ (n == 0) → b ≡ true → objects ≡ []
-none_of objects n b long is yes = nil_from_length objects (sym long ∙ eqb-true n 0 (sym is ∙ yes))
+none_of objects n b long is empty = nil_from_length objects (sym long ∙ eqb-true n 0 (sym is ∙ empty))
 
 -- a block's row stands as it would outside of it
 pub block_bare : (F : Frame) (place : ℕ) (body : tree.Stmts) (left objects : List ℕ) (o0 o1 : List Node) → objects ≡ objects_in F body → objects ≡ []

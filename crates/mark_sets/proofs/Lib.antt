@@ -8,3 +8,8 @@ pub mod Gathering
 pub mod Rounds
 pub mod AddedRows
 pub mod Bits
+pub mod HomeSlots
+pub mod LiveRows
+pub mod Backwards
+pub mod Told
+pub mod HeadRows

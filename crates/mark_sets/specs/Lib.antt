@@ -6,3 +6,5 @@ pub mod Gather
 pub mod Laws
 pub mod Views
 pub mod Added
+pub mod Homes
+pub mod Heads

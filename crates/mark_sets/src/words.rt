@@ -131,3 +131,15 @@ pub fn chosen(alloc: Global, set: &[u64], yes: &[u64], no: &[u64]) -> Result<Vec
     }
     Ok(out)
 }
+
+/// Whether the set has no numbers.
+pub fn is_empty(set: &[u64]) -> bool
+    ensures { result ≡ true → (i : ℕ) → has set.now i ≡ false }
+{
+    for word in set {
+        if *word != 0 {
+            return false;
+        }
+    }
+    true
+}

@@ -9,3 +9,5 @@ pub mod Sound
 pub mod Shown
 pub mod Main
 pub mod WorkedRows
+pub mod Uses
+pub mod KeptRows

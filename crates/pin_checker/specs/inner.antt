@@ -2,3 +2,4 @@
 pub mod Reports
 pub mod SearchViews
 pub mod Found
+pub mod Uses

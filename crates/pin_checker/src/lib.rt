@@ -9,6 +9,7 @@ pub mod fault;
 mod found;
 mod guards;
 mod invalid;
+mod kept;
 pub mod laws;
 mod pair;
 mod reports;

@@ -9,6 +9,7 @@ ghost use Rattle.pin_checker.specs.inner.SearchViews.{search_view};
 use crate::fault::{Fault, earlier_of};
 use crate::found::found_in;
 use crate::invalid::report_invalid;
+use crate::kept::are_kept;
 use crate::pair::{Pair, add_pairs};
 use crate::search::Search;
 use ak_words::NoMemory;
@@ -49,7 +50,8 @@ fn report_pair(nodes: &[Node], q: Pair, best: Option<Fault>) -> Option<Fault>
     }
 }
 
-fn report_pairs(nodes: &[Node], pairs: &[Pair], best: Option<Fault>) -> Option<Fault>
+// One pair after the other.
+fn report_in_turn(nodes: &[Node], pairs: &[Pair], best: Option<Fault>) -> Option<Fault>
     ensures { result ≡ report_pairs (nodes_view nodes.now) pairs.now best }
 {
     let mut found = best;
@@ -57,6 +59,22 @@ fn report_pairs(nodes: &[Node], pairs: &[Pair], best: Option<Fault>) -> Option<F
         found = report_pair(nodes, *q, found);
     }
     found
+}
+
+// Where each pair is kept no search finds anything.
+fn report_pairs(
+    alloc: Global,
+    f: &IrFunc,
+    pairs: &[Pair],
+    best: Option<Fault>,
+) -> Result<Option<Fault>, NoMemory>
+    ensures { IfOk result (λ r. r ≡ report_pairs (nodes_view f.now.nodes.items) pairs.now best) }
+{
+    if are_kept(alloc, f, pairs)? {
+        Ok(best)
+    } else {
+        Ok(report_in_turn(&f.nodes, pairs, best))
+    }
 }
 
 fn report_func(
@@ -75,7 +93,7 @@ fn report_func(
     let bare = report_all(Search::Bare, &f.nodes, invalid);
     let mut pairs = Vec::new(alloc);
     add_pairs(&f.nodes, &mut pairs)?;
-    Ok(report_pairs(&f.nodes, &pairs, bare))
+    report_pairs(alloc, f, &pairs, bare)
 }
 
 /// The first node of the program that fails, with its reason.

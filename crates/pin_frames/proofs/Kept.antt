@@ -8,7 +8,8 @@ use Rattle.pin_flow.specs.Held.{held}
 use Rattle.pin_flow.specs.Slots.{IsIn}
 use Rattle.pin_flow.specs.Live.{uses, Live, lives, live_act, live, live_node, head_live, latch_live, body_lives, latch_lives}
 use Rattle.pin_frames.specs.inner.Place.{is_bad, act_listing, list_for, heads, turns, on_states, rest_lives, listed, listed_in}
-use Rattle.pin_frames.specs.inner.Together.{slots_for, used_listed, used_listed_in, keeps, Kept, KeptIn}
+use Rattle.pin_frames.specs.inner.Together.{slots_for, used_listed, used_listed_in, Kept, KeptIn}
+use Rattle.mark_sets.specs.Homes.{keeps}
 
 -- nothing is used later where some path says no
 abbrev pub Safe : AllPaths → Bool → Type 0

@@ -1,4 +1,3 @@
-pub mod Backwards
 pub mod Due
 pub mod Exact
 pub mod FreeRows
@@ -7,7 +6,6 @@ pub mod Kept
 pub mod ListRows
 pub mod Listed
 pub mod Lists
-pub mod LiveRows
 pub mod OneByOne
 pub mod Pin
 pub mod Placed

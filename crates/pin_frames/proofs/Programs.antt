@@ -31,7 +31,8 @@ use Rattle.pin_frames.proofs.Hoists.{looks_listing, hoisted_cleared, throughout_
 use Rattle.pin_frames.proofs.OneByOne.{cleared_is, each_is_placed}
 use Rattle.pin_frames.proofs.Placed as placing
 use Rattle.pin_flow.proofs.Registers.{some_below}
-use Rattle.pin_frames.proofs.Valid.{bases_once, valid_listed, valid_seated}
+use Rattle.mark_sets.proofs.HomeSlots.{bases_once}
+use Rattle.pin_frames.proofs.Valid.{valid_listed, valid_seated}
 
 pub each_end : (s : ℕ → Option ℕ) (bs : List ℕ) (i : ℕ) (out all : Nodes) → length bs ≤ i → listed_each s (drop i bs) out ≡ all → out ≡ all
 each_end s bs i out all le e = ap (λ l. listed_each s l out) (sym (drop_all i bs le)) ∙ e

@@ -1,10 +1,9 @@
 -- Rows that get their lists from behind, all registers at once.
-use Rattle.std.proofs.Common.{◌≡◌, ◌%◌, nat_eq, ◌<◌, ◌≤◌, ◌+◌, ℕ, zero, suc, List, [], ◌∷◌, ◌++◌, length, take, drop, get_or, set, take_all, drop_of_length-le, append-nil, append_assoc, Some, Result, IfOk, Bool, true, false, ◌||◌, ◌&&◌, refl, sym, ap, subst, ◌∙◌, arith}
+use Rattle.std.proofs.Common.{◌≡◌, ◌<◌, ◌≤◌, ◌+◌, ℕ, zero, suc, List, [], ◌∷◌, ◌++◌, length, take, drop, get_or, set, take_all, drop_of_length-le, append-nil, append_assoc, Some, Result, IfOk, Bool, true, false, ◌||◌, ◌&&◌, refl, sym, ap, subst, ◌∙◌, arith}
 use Rattle.std.specs.Prelude.{not}
 use Rattle.std.specs.Global.{Vec}
 use Rattle.std.proofs.lemmas.Result.{IfOk-weaker}
 use Rattle.std.proofs.lemmas.List.{take_more, at_drop_more, length-take-le}
-use Rattle.std.proofs.lemmas.Nat.Bits.{bit_at-zero}
 use Rattle.struct_ir.specs.declared.code.Node.{Node as CodeNode}
 use Rattle.struct_ir.specs.declared.code.NodeKind.{NodeKind}
 use Rattle.struct_ir.specs.declared.code.NodeKind.TheViews as views
@@ -14,20 +13,18 @@ use Rattle.struct_ir.specs.Views.{kind_view, node_view, nodes_view}
 use Rattle.struct_ir.proofs.Views.{if_is, if_view, loop_is, loop_view}
 use Rattle.pin_flow.specs.Slots.{slot_if, slot_in}
 use Rattle.pin_flow.specs.Views.{act_is, looks_slot}
-use Rattle.pin_flow.specs.Live.{uses, Live, lives, live, live_node, head_live, latch_live, body_lives, latch_lives}
+use Rattle.pin_flow.specs.Live.{uses, Live, lives, live, head_live, body_lives, latch_lives}
 use Rattle.pin_flow.proofs.FlowRows.{is_plain}
 use Rattle.pin_flow.proofs.Bases.{slot_known}
 use Rattle.mark_sets.specs.Words.{has}
-use Rattle.pin_frames.specs.declared.together.Walked.{Walked}
+use Rattle.mark_sets.specs.declared.from_behind.Walked.{Walked}
 use Rattle.pin_frames.specs.inner.Place.{rest_lives, listed, none_held, none_later}
-use Rattle.pin_frames.specs.inner.Together.{Tells, lives_in, slots_for, used_listed, used_listed_in, node_listing, node_keeps, Kept, KeptIn, AreKept, AreKeptIn, AreKeptLoop}
-use Rattle.pin_frames.proofs.LiveRows.{live_start, live_act_at}
+use Rattle.mark_sets.specs.Homes.{Tells, lives_in, node_keeps}
+use Rattle.pin_frames.specs.inner.Together.{slots_for, used_listed, used_listed_in, node_listing, Kept, KeptIn, AreKept, AreKeptIn, AreKeptLoop}
+use Rattle.mark_sets.proofs.LiveRows.{live_start}
+use Rattle.mark_sets.proofs.HomeSlots.{has_nothing}
+use Rattle.mark_sets.proofs.Told.{lives_told, in_latch, in_body}
 use Rattle.pin_frames.proofs.Kept.{used_same, in_same, listed_used}
-
--- an empty set has no numbers
-pub has_nothing : (i : ℕ) → has [] i ≡ false
-unfolding has
-has_nothing i = ap (λ x. nat_eq x 1) (bit_at-zero (i % 64))
 
 -- ---- a row that is gone through from its end
 
@@ -89,19 +86,16 @@ module _ (bs on set out end : List ℕ) (rest : Nodes) (told : Tells bs set (λ 
   abbrev S : ℕ → ℕ
   S b = slot_in bs b
 
-  lives_told : (b i : ℕ) → slot_if bs b ≡ Some i → lives_in set out end i ≡ lives (live i b rest (lives_in on out end i)) (has out i) (has end i)
-  lives_told b i e = ap (λ y. lives y (has out i) (has end i)) (told b i e)
-
   pub node_more : (n n' : Node) (rest' : Nodes) → n' ≡ used_listed_in S bs n (λ b. lives_in set out end (S b)) → rest' ≡ used_listed S bs rest (λ b. lives_in on out end (S b))
       → more_nodes n' rest' ≡ used_listed S bs (more_nodes n rest) (λ b. lives_in on out end (S b))
   node_more n n' rest' e f =
       let here : n' ≡ used_listed_in S bs n (rest_lives S rest (λ b. lives_in on out end (S b))) =
-      e ∙ in_same S bs n (λ b. lives_in set out end (S b)) (rest_lives S rest (λ b. lives_in on out end (S b))) (λ b j. lives_told b (S b) (slot_known bs b j)) in
+      e ∙ in_same S bs n (λ b. lives_in set out end (S b)) (rest_lives S rest (λ b. lives_in on out end (S b))) (λ b j. lives_told bs on set out end rest told b (S b) (slot_known bs b j)) in
       λ i. more_nodes (here i) (f i)
 
   pub kept_more : (n : Node) → AreKeptIn bs n set out end → AreKept bs rest on out end → AreKept bs (more_nodes n rest) on out end
   unfolding Kept
-  kept_more n k l b i e = (subst (λ (m : Live). KeptIn i b n m) (lives_told b i e) (k b i e), l b i e)
+  kept_more n k l b i e = (subst (λ (m : Live). KeptIn i b n m) (lives_told bs on set out end rest told b i e) (k b i e), l b i e)
 
 pub kept_none : (bs on out end : List ℕ) → AreKept bs no_nodes on out end
 unfolding Kept
@@ -113,37 +107,19 @@ kept_at bs on {ns} {ns'} {out} {out'} {end} {end'} e f g k = subst (λ n. AreKep
 
 -- ---- loops
 
--- the start of each round
-pub head_by : (i b : ℕ) (body latch : Nodes) (on top end start last s t : Bool) → s ≡ false → t ≡ false → end ≡ live i b latch (lives s on t) → start ≡ end → last ≡ end → top ≡ live i b body (lives start on last)
-    → top ≡ head_live i b body latch on
-unfolding head_live
-head_by i b body latch on top end start last s t es et ee ss ll e =
-    let first : end ≡ live i b latch (lives false on false) = ee ∙ (λ j. live i b latch (lives (es j) on (et j))) in
-    e ∙ ((λ j. live i b body (lives (ss j) on (ll j))) ∙ (λ j. live i b body (lives (first j) on (first j))))
-
 module _ (bs on head top last : List ℕ) (body latch : Nodes) (tops : top ≡ head) (lasts : List ℕ) (same : lasts ≡ last)
     (heads : Tells bs head (λ i b. head_live i b body latch (has on i))) (ends : Tells bs last (λ i b. live i b latch (lives_in top on head i))) where
   abbrev L : ℕ → ℕ
   L b = slot_in bs b
 
-  in_latch : (b i : ℕ) → slot_if bs b ≡ Some i → lives_in top on head i ≡ latch_lives i b body latch (has on i)
-  in_latch b i e = (λ j. lives (has (tops j) i) (has on i) (has head i)) ∙ (λ j. lives (heads b i e j) (has on i) (heads b i e j))
-
-  at_end : (b i : ℕ) → slot_if bs b ≡ Some i → has last i ≡ latch_live i b body latch (has on i)
-  unfolding latch_live
-  at_end b i e = ends b i e ∙ ap (live i b latch) (in_latch b i e)
-
-  in_body : (b i : ℕ) → slot_if bs b ≡ Some i → lives_in lasts on last i ≡ body_lives i b body latch (has on i)
-  in_body b i e = (λ j. lives (has (same j) i) (has on i) (has last i)) ∙ (λ j. lives (at_end b i e j) (has on i) (at_end b i e j))
-
   pub body_done : (body' : Nodes) → body' ≡ used_listed L bs body (λ b. lives_in lasts on last (L b)) → body' ≡ used_listed L bs body (λ b. body_lives (L b) b body latch (has on (L b)))
-  body_done body' e = e ∙ used_same L bs body (λ b. lives_in lasts on last (L b)) (λ b. body_lives (L b) b body latch (has on (L b))) (λ b j. in_body b (L b) (slot_known bs b j))
+  body_done body' e = e ∙ used_same L bs body (λ b. lives_in lasts on last (L b)) (λ b. body_lives (L b) b body latch (has on (L b))) (λ b j. in_body bs on head top last body latch tops lasts same heads ends b (L b) (slot_known bs b j))
 
   pub latch_done : (latch' : Nodes) → latch' ≡ used_listed L bs latch (λ b. lives_in top on head (L b)) → latch' ≡ used_listed L bs latch (λ b. latch_lives (L b) b body latch (has on (L b)))
-  latch_done latch' e = e ∙ used_same L bs latch (λ b. lives_in top on head (L b)) (λ b. latch_lives (L b) b body latch (has on (L b))) (λ b j. in_latch b (L b) (slot_known bs b j))
+  latch_done latch' e = e ∙ used_same L bs latch (λ b. lives_in top on head (L b)) (λ b. latch_lives (L b) b body latch (has on (L b))) (λ b j. in_latch bs on head top last body latch tops lasts same heads ends b (L b) (slot_known bs b j))
 
   pub both_kept : AreKept bs body lasts on last → AreKept bs latch top on head → AreKeptLoop bs body latch on
-  both_kept k l b i e = (subst (λ (m : Live). Kept i b body m) (in_body b i e) (k b i e), subst (λ (m : Live). Kept i b latch m) (in_latch b i e) (l b i e))
+  both_kept k l b i e = (subst (λ (m : Live). Kept i b body m) (in_body bs on head top last body latch tops lasts same heads ends b i e) (k b i e), subst (λ (m : Live). Kept i b latch m) (in_latch bs on head top last body latch tops lasts same heads ends b i e) (l b i e))
 
 -- ---- nodes that hold others
 
@@ -188,12 +164,6 @@ act_kept i b (next_ p) l e k = absurd (let h : false ≡ true = e in cc)
 act_kept i b (ret p x) l e k = absurd (let h : false ≡ true = e in cc)
 
 module _ {E : Type 0} (r : Result Walked E) (bs on out end : List ℕ) (n' : Node) (n : CodeNode) where
-  pub act_told : IfOk r (λ w. Tells bs w.on.items (λ i b. act_is (uses i b) n' || (not (looks_slot i n') && has on i))) → n' ≡ node_view n → is_plain (node_view n) ≡ true
-      → IfOk r (λ w. Tells bs w.on.items (λ i b. live_node i b (node_view n) (lives_in on out end i)))
-  act_told f same l =
-      IfOk-weaker r (λ w. Tells bs w.on.items (λ i b. act_is (uses i b) n' || (not (looks_slot i n') && has on i))) (λ w. Tells bs w.on.items (λ i b. live_node i b (node_view n) (lives_in on out end i)))
-      (λ w g b i e. g b i e ∙ ((λ j. act_is (uses i b) (same j) || (not (looks_slot i (same j)) && has on i)) ∙ live_act_at i b (node_view n) (lives_in on out end i) l)) f
-
   pub act_keeps : IfOk r (λ w. w.kept ≡ true → (b i : ℕ) → slot_if bs b ≡ Some i → has on i ≡ true → node_keeps i b n' ≡ true) → n' ≡ node_view n → is_plain (node_view n) ≡ true
       → IfOk r (λ w. w.kept ≡ true → AreKeptIn bs (node_view n) on out end)
   act_keeps f same l =

@@ -1,35 +1,17 @@
 -- Code with safepoints and lists is valid where the code without them is.
-use Rattle.std.proofs.Common.{◌≡◌, ℕ, zero, suc, ◌<◌, List, [], ◌∷◌, ◌++◌, length, Bool, true, ◌==◌, ◌||◌, ◌&&◌, if◌then◌else◌, inl, inr, refl, sym, subst, arith}
+use Rattle.std.proofs.Common.{◌≡◌, ℕ, ◌<◌, List, [], ◌∷◌, length, Bool, true, ◌==◌, ◌||◌, ◌&&◌, if◌then◌else◌, inl, inr, refl, sym, subst}
 use Rattle.std.proofs.lemmas.Bool.{and_from, and_parts, lt-ltb}
 use Rattle.struct_ir.specs.Nodes.{Act, set, call, step, look, safepoint, begin_object, end_object, may_wait, Node, plain, if_, loop, break_, next_, ret, Nodes, no_nodes, more_nodes}
 use Rattle.std.specs.List.{list_all}
 use Rattle.struct_ir.specs.Pins.{lacks}
 use Rattle.struct_ir.specs.Valid.{Scope, Around, body_of, latch_of, are_below, is_distinct, is_list, is_own_list, is_place, is_below_if, has_counts, counts_of, is_action, is_act, is_node, are_nodes}
 use Rattle.pin_flow.specs.Marks.{AllPaths}
-use Rattle.pin_flow.specs.Looks.{some_act}
 use Rattle.pin_flow.specs.Live.{Live, live_act, body_lives, latch_lives}
-use Rattle.pin_flow.specs.Slots.{accesses, bases_below, IsIn, AreApart}
-use Rattle.pin_flow.proofs.Registers.{in_parts, base_below}
+use Rattle.pin_flow.specs.Slots.{IsIn, AreApart}
 use Rattle.pin_flow.proofs.Strip.{by_bool}
 use Rattle.pin_frames.specs.inner.Place.{stop, act_seats, seats, seated, seated_in, wanted, act_listing, list_for, heads, turns, on_states, rest_lives, listed, listed_in}
-use Rattle.pin_frames.specs.inner.Together.{AreOnce}
+use Rattle.mark_sets.specs.Homes.{AreOnce}
 use Rattle.pin_frames.proofs.Exact.{list_only}
-
--- ---- each base stands once among the bases
-
-once_more : (bs : List ℕ) (c : ℕ) → AreOnce bs → (IsIn bs c → ⊥) → AreOnce (bs ++ (c ∷ []))
-once_more [] c o h = ((λ i. i), tt)
-once_more (b ∷ bs) c o h = (
-  (λ i. elim (in_parts bs c b i) [ inl e ↦ h (inl (sym e)) | inr j ↦ o.0 j ]),
-  once_more bs c o.1 (λ i. h (inr i)),
-)
-
-pub bases_once : (n : ℕ) (ns : Nodes) → AreOnce (bases_below n ns)
-bases_once zero ns = tt
-bases_once (suc n) ns =
-    by_bool (λ x. AreOnce (if x then bases_below n ns ++ (n ∷ []) else bases_below n ns)) (some_act (accesses n) ns)
-    (λ e. once_more (bases_below n ns) n (bases_once n ns) (λ i. let h = base_below n ns n i in absurd (omega (arith, h))))
-    (λ e. bases_once n ns)
 
 -- ---- lists
 

@@ -10,6 +10,5 @@ pub mod placing;
 pub mod seating;
 mod together;
 mod unlisted;
-mod used;
 
 pub use placing::{place, place_owned};

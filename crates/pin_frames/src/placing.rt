@@ -14,16 +14,19 @@ ghost use Rattle.struct_ir.specs.Safe.{EveryFunc, IsPinSafe};
 ghost use Rattle.pin_flow.specs.Funcs.{IsCovered, IsExact, IsExactAtPoints, IsHoisted, IsHoistedAtPoints, IsHoistedThroughout};
 ghost use Rattle.pin_flow.specs.Slots.{HasOwnSlots, slot_if, slot_in};
 ghost use Rattle.pin_frames.specs.inner.Place.{seated, cleared, listed, none_held, none_later, listed_one, listed_for, listed_each, func_placed, ir_placed};
-ghost use Rattle.pin_frames.specs.inner.Together.{AreOnce, AreHomes};
+ghost use Rattle.mark_sets.specs.Added.{loops};
+ghost use Rattle.mark_sets.specs.Heads.{AreHeads};
+ghost use Rattle.mark_sets.specs.Homes.{AreOnce, AreHomes};
 
 use crate::listing::list_row;
 use crate::lives::lives_of;
 use crate::seating::seat_row;
-use crate::together::{is_empty, list_row as list_all};
+use crate::together::list_row as list_all;
 use crate::unlisted::free_row;
-use crate::used::Homes;
 use ak_words::NoMemory;
-use mark_sets::marks::held_marks;
+use mark_sets::heads::{Outline, outline_of};
+use mark_sets::homes::homes_of;
+use mark_sets::words::is_empty;
 use pin_flow::programs::copy_ir;
 use pin_flow::rows::copy_row;
 use pin_flow::slots::{bases_of, slot_of};
@@ -123,22 +126,37 @@ fn list_bases(alloc: Global, bases: Vec<u32>, rows: Vec<Node>) -> Result<Vec<Nod
     ensures { IfOk result (λ v. nodes_view v.items ≡ listed_each (slot_if bases.items) bases.items (seated (cleared (nodes_view rows.items)) no_nodes)) }
 {
     let code = seat_row(alloc, rows)?;
-    let marks = held_marks(alloc, &bases)?;
-    let homes = Homes { bases, marks };
-    match list_together(alloc, &homes, &code)? {
+    let homes = homes_of(alloc, bases)?;
+    let outline = outline_of(alloc, homes, &code)?;
+    match list_together(alloc, &outline, &code)? {
         Some(done) => Ok(done),
-        None => list_in_turn(alloc, &homes.bases, code),
+        None => list_in_turn(alloc, &outline.homes.bases, code),
     }
 }
 
 // None where some act doesn't keep what is used behind it, or something is used before its Look.
-fn list_together(alloc: Global, homes: &Homes, code: &[Node]) -> Result<Option<Vec<Node>>, NoMemory>
-    requires { AreHomes homes.now }
-    ensures { IfOk result (λ o. IfSome o (λ v. nodes_view v.items ≡ listed (slot_in homes.now.bases.items) homes.now.bases.items (nodes_view code.now) none_held none_later)) }
+fn list_together(
+    alloc: Global,
+    outline: &Outline,
+    code: &[Node],
+) -> Result<Option<Vec<Node>>, NoMemory>
+    requires homes { AreHomes outline.now.homes }
+    requires count { length outline.now.heads.items ≡ loops (nodes_view code.now) }
+    requires heads { AreHeads outline.now.homes.bases.items outline.now.heads.items 0 (nodes_view code.now) }
+    ensures { IfOk result (λ o. IfSome o (λ v. nodes_view v.items ≡ listed (slot_in outline.now.homes.bases.items) outline.now.homes.bases.items (nodes_view code.now) none_held none_later)) }
 {
     let mut rows = copy_row(alloc, code)?;
     let none = Vec::new(alloc);
-    let walked = list_all(alloc, homes, &mut rows, Vec::new(alloc), &none, &none)?;
+    let mut next = 0;
+    let walked = list_all(
+        alloc,
+        outline,
+        &mut next,
+        &mut rows,
+        Vec::new(alloc),
+        &none,
+        &none,
+    )?;
     if walked.kept && is_empty(&walked.on) {
         Ok(Some(rows))
     } else {

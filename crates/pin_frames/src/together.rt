@@ -1,6 +1,6 @@
 //! The lists of all registers at once, by what is used later.
 
-ghost use Rattle.std.specs.Prelude.{◌≡◌, ◌==◌, ◌<◌, ◌≤◌, ◌^◌, ◌||◌, ◌&&◌, ℕ, Some, true, false, length, not, IfOk, OnOk};
+ghost use Rattle.std.specs.Prelude.{◌≡◌, ◌==◌, ◌<◌, ◌≤◌, ◌+◌, ◌^◌, ◌||◌, ◌&&◌, ℕ, suc, Some, true, false, length, not, IfOk, OnOk};
 ghost use Rattle.struct_ir.specs.Views.{step_view, node_view, nodes_view};
 ghost use Rattle.pin_flow.specs.Live.{uses, live, live_node, head_live, body_lives, latch_lives};
 ghost use Rattle.pin_flow.specs.Looks.{is_to};
@@ -8,23 +8,20 @@ ghost use Rattle.pin_flow.specs.Slots.{slot_if, slot_in};
 ghost use Rattle.pin_flow.specs.Views.{act_is, looks_slot};
 ghost use Rattle.mark_sets.specs.Words.{has};
 ghost use Rattle.pin_frames.specs.inner.Place.{step_listing};
-ghost use Rattle.pin_frames.specs.inner.Together.{AreHomes, Tells, lives_in, numbers, slots_for, used_listed, used_listed_in, node_listing, node_keeps, AreKept, AreKeptIn, AreKeptLoop};
+ghost use Rattle.mark_sets.specs.Added.{loops, loops_in};
+ghost use Rattle.mark_sets.specs.Heads.{AreHeads, AreHeadsIn, AreHeadsWithin};
+ghost use Rattle.mark_sets.specs.Homes.{AreHomes, Tells, lives_in, node_keeps};
+ghost use Rattle.pin_frames.specs.inner.Together.{numbers, slots_for, used_listed, used_listed_in, node_listing, AreKept, AreKeptIn, AreKeptLoop};
 
-use crate::used::{Homes, head_used, is_home, used_act};
 use ak_words::NoMemory;
-use mark_sets::words::{contains, united, word};
+use mark_sets::from_behind::{Walked, both, both_walked, led_to};
+use mark_sets::heads::{Outline, next_head};
+use mark_sets::homes::{Homes, keeps};
+use mark_sets::used::used_act;
+use mark_sets::words::{contains, word};
 use smallvec::SmallVec;
 use std::alloc::Global;
 use struct_ir::{Node, NodeKind, StepNode};
-
-/// What is used at or behind the start of a row, and whether each act keeps what is used behind it.
-#[derive(Drop)]
-pub struct Walked {
-    /// The slots.
-    pub on: Vec<u64>,
-    /// Whether they are kept: then each is available where it is used later.
-    pub kept: bool,
-}
 
 // The number, or where no bit of its word is set from it on, the first number of the next word.
 fn next_from(set: &[u64], i: usize) -> usize
@@ -55,10 +52,12 @@ fn numbers_in(alloc: Global, set: &[u64], count: usize) -> Result<Vec<u32>, NoMe
     Ok(out)
 }
 
-fn list_step(alloc: Global, slots: Vec<u32>, s: &mut StepNode) -> Result<(), NoMemory>
-    ensures { OnOk result (step_view s.new ≡ step_listing (step_view s.old) slots.items) }
+fn list_step(alloc: Global, set: &[u64], count: usize, s: &mut StepNode) -> Result<(), NoMemory>
+    requires { count < 2 ^ 32 }
+    ensures { OnOk result (step_view s.new ≡ step_listing (step_view s.old) (numbers (has set.now) 0 count)) }
 {
     s.slots = if s.action.may_wait() {
+        let slots = numbers_in(alloc, set, count)?;
         SmallVec::from_slice(alloc, &slots)?
     } else {
         SmallVec::new(alloc)
@@ -66,58 +65,18 @@ fn list_step(alloc: Global, slots: Vec<u32>, s: &mut StepNode) -> Result<(), NoM
     Ok(())
 }
 
-// Makes this the node's own list, if it has one.
-fn list_own(alloc: Global, slots: Vec<u32>, n: &mut Node) -> Result<(), NoMemory>
-    ensures { OnOk result (node_view n.new ≡ node_listing (node_view n.old) slots.items) }
+// Makes the numbers of the set the node's own list, if it has one.
+fn list_own(alloc: Global, set: &[u64], count: usize, n: &mut Node) -> Result<(), NoMemory>
+    requires { count < 2 ^ 32 }
+    ensures { OnOk result (node_view n.new ≡ node_listing (node_view n.old) (numbers (has set.now) 0 count)) }
 {
     match &mut n.kind {
-        NodeKind::Call(c) => c.slots = slots,
-        NodeKind::Step(s) => list_step(alloc, slots, s)?,
-        NodeKind::Safepoint(old) => *old = slots,
+        NodeKind::Call(c) => c.slots = numbers_in(alloc, set, count)?,
+        NodeKind::Step(s) => list_step(alloc, set, count, s)?,
+        NodeKind::Safepoint(old) => *old = numbers_in(alloc, set, count)?,
         _ => {}
     }
     Ok(())
-}
-
-// Whether the register's slot is not in the set.
-fn is_unused(homes: &Homes, b: u32, set: &[u64]) -> bool
-    requires { AreHomes homes.now }
-    ensures { result ≡ true → (c i : ℕ) → slot_if homes.now.bases.items c ≡ Some i → has set.now i ≡ true → (c == b) ≡ false }
-{
-    match homes.marks.bit(b) {
-        Some(i) => !contains(set, i),
-        None => true,
-    }
-}
-
-fn is_unused_if(homes: &Homes, to: Option<u32>, set: &[u64]) -> bool
-    requires { AreHomes homes.now }
-    ensures { result ≡ true → (c i : ℕ) → slot_if homes.now.bases.items c ≡ Some i → has set.now i ≡ true → is_to c to ≡ false }
-{
-    match to {
-        Some(b) => is_unused(homes, b, set),
-        None => true,
-    }
-}
-
-fn looks_home(homes: &Homes, slot: u32, b: u32, set: &[u64]) -> bool
-    ensures { result ≡ true → (c : ℕ) → slot_if homes.now.bases.items c ≡ Some slot → has set.now slot ≡ true → (b == c) ≡ true }
-{
-    !contains(set, slot as usize) || is_home(homes, slot, b)
-}
-
-// Whether the act keeps the registers whose slots are in the set.
-fn keeps(homes: &Homes, n: &Node, set: &[u64]) -> bool
-    requires { AreHomes homes.now }
-    ensures { result ≡ true → (b i : ℕ) → slot_if homes.now.bases.items b ≡ Some i → has set.now i ≡ true → node_keeps i b (node_view n.now) ≡ true }
-{
-    match &n.kind {
-        NodeKind::Set(to, _) => is_unused(homes, *to, set),
-        NodeKind::Call(c) => is_unused_if(homes, c.to, set),
-        NodeKind::Step(s) => is_unused_if(homes, s.to, set),
-        NodeKind::Look(slot, b) => looks_home(homes, *slot, *b, set),
-        _ => true,
-    }
 }
 
 fn list_act(alloc: Global, homes: &Homes, n: &mut Node, on: Vec<u64>) -> Result<Walked, NoMemory>
@@ -128,39 +87,12 @@ fn list_act(alloc: Global, homes: &Homes, n: &mut Node, on: Vec<u64>) -> Result<
 {
     let kept = keeps(homes, n, &on);
     let set = used_act(homes, n, on)?;
-    let slots = numbers_in(alloc, &set, homes.bases.len())?;
-    list_own(alloc, slots, n)?;
+    list_own(alloc, &set, homes.bases.len(), n)?;
     Ok(Walked { on: set, kept })
 }
 
-fn both(a: bool, b: bool) -> bool
-    ensures { result ≡ (a && b) }
-{
-    a && b
-}
-
-// What either has found; all is kept if it is in both.
-fn both_walked(one: Walked, other: Walked) -> Walked
-    ensures used { (i : ℕ) → has result.on.items i ≡ (has one.on.items i || has other.on.items i) }
-    ensures kept { result.kept ≡ (one.kept && other.kept) }
-{
-    Walked {
-        on: united(one.on, other.on),
-        kept: both(one.kept, other.kept),
-    }
-}
-
-// Where control leaves a row: what is used is what is used where it goes, and nothing is left to keep.
-fn led_to(alloc: Global, on: &[u64]) -> Result<Walked, NoMemory>
-    ensures { IfOk result (λ w. w.on.items ≡ on.now) }
-{
-    Ok(Walked {
-        on: on.to_vec(alloc)?,
-        kept: true,
-    })
-}
-
-/// Makes the lists of the row: each has the slots that are used at its act or later.
+/// Makes the lists of the row: each has the slots that are used at its act or later. The heads from
+/// the next one on are those of the row's loops.
 ///
 /// # Errors
 ///
@@ -168,23 +100,27 @@ fn led_to(alloc: Global, on: &[u64]) -> Result<Walked, NoMemory>
 #[cycle(lists)]
 pub(crate) fn list_row(
     alloc: Global,
-    homes: &Homes,
+    outline: &Outline,
+    next: &mut usize,
     rows: &mut [Node],
     on: Vec<u64>,
     out: &[u64],
     end: &[u64],
 ) -> Result<Walked, NoMemory>
-    requires { AreHomes homes.now }
-    ensures used { IfOk result (λ w. Tells homes.now.bases.items w.on.items (λ i b. live i b (nodes_view rows.old) (lives_in on.items out.now end.now i))) }
-    ensures kept { IfOk result (λ w. w.kept ≡ true → AreKept homes.now.bases.items (nodes_view rows.old) on.items out.now end.now) }
-    ensures row { OnOk result (nodes_view rows.new ≡ used_listed (slot_in homes.now.bases.items) homes.now.bases.items (nodes_view rows.old) (λ b. lives_in on.items out.now end.now (slot_in homes.now.bases.items b))) }
+    requires homes { AreHomes outline.now.homes }
+    requires within { next.old + loops (nodes_view rows.old) ≤ length outline.now.heads.items }
+    requires heads { AreHeads outline.now.homes.bases.items outline.now.heads.items next.old (nodes_view rows.old) }
+    ensures next { OnOk result (next.new ≡ next.old + loops (nodes_view rows.old)) }
+    ensures used { IfOk result (λ w. Tells outline.now.homes.bases.items w.on.items (λ i b. live i b (nodes_view rows.old) (lives_in on.items out.now end.now i))) }
+    ensures kept { IfOk result (λ w. w.kept ≡ true → AreKept outline.now.homes.bases.items (nodes_view rows.old) on.items out.now end.now) }
+    ensures row { OnOk result (nodes_view rows.new ≡ used_listed (slot_in outline.now.homes.bases.items) outline.now.homes.bases.items (nodes_view rows.old) (λ b. lives_in on.items out.now end.now (slot_in outline.now.homes.bases.items b))) }
 {
     let mut set = on;
     let mut kept = true;
     let mut left = rows.len();
     'row: while left > 0 {
         left -= 1;
-        let node = list_node(alloc, homes, &mut rows[left], set, out, end)?;
+        let node = list_node(alloc, outline, next, &mut rows[left], set, out, end)?;
         kept = both(node.kept, kept);
         set = node.on;
     }
@@ -195,30 +131,34 @@ pub(crate) fn list_row(
 #[cycle(lists)]
 fn list_node(
     alloc: Global,
-    homes: &Homes,
+    outline: &Outline,
+    next: &mut usize,
     n: &mut Node,
     on: Vec<u64>,
     out: &[u64],
     end: &[u64],
 ) -> Result<Walked, NoMemory>
-    requires { AreHomes homes.now }
-    ensures used { IfOk result (λ w. Tells homes.now.bases.items w.on.items (λ i b. live_node i b (node_view n.old) (lives_in on.items out.now end.now i))) }
-    ensures kept { IfOk result (λ w. w.kept ≡ true → AreKeptIn homes.now.bases.items (node_view n.old) on.items out.now end.now) }
-    ensures node { OnOk result (node_view n.new ≡ used_listed_in (slot_in homes.now.bases.items) homes.now.bases.items (node_view n.old) (λ b. lives_in on.items out.now end.now (slot_in homes.now.bases.items b))) }
+    requires homes { AreHomes outline.now.homes }
+    requires within { next.old + loops_in (node_view n.old) ≤ length outline.now.heads.items }
+    requires heads { AreHeadsIn outline.now.homes.bases.items outline.now.heads.items next.old (node_view n.old) }
+    ensures next { OnOk result (next.new ≡ next.old + loops_in (node_view n.old)) }
+    ensures used { IfOk result (λ w. Tells outline.now.homes.bases.items w.on.items (λ i b. live_node i b (node_view n.old) (lives_in on.items out.now end.now i))) }
+    ensures kept { IfOk result (λ w. w.kept ≡ true → AreKeptIn outline.now.homes.bases.items (node_view n.old) on.items out.now end.now) }
+    ensures node { OnOk result (node_view n.new ≡ used_listed_in (slot_in outline.now.homes.bases.items) outline.now.homes.bases.items (node_view n.old) (λ b. lives_in on.items out.now end.now (slot_in outline.now.homes.bases.items b))) }
 {
     match &mut n.kind {
         NodeKind::If(_, one, other) => {
             let start = on.to_vec(alloc)?;
-            let first = list_row(alloc, homes, one, start, out, end)?;
-            let second = list_row(alloc, homes, other, on, out, end)?;
+            let first = list_row(alloc, outline, next, one, start, out, end)?;
+            let second = list_row(alloc, outline, next, other, on, out, end)?;
             Ok(both_walked(first, second))
         }
-        NodeKind::Loop(body, step) => list_loop(alloc, homes, body, step, &on),
+        NodeKind::Loop(body, step) => list_loop(alloc, outline, next, body, step, &on),
         NodeKind::Set(..) | NodeKind::Call(_) | NodeKind::Step(_) | NodeKind::Look(..) => {
-            list_act(alloc, homes, n, on)
+            list_act(alloc, &outline.homes, n, on)
         }
         NodeKind::Safepoint(_) | NodeKind::Begin(_) | NodeKind::End(_) => {
-            list_act(alloc, homes, n, on)
+            list_act(alloc, &outline.homes, n, on)
         }
         NodeKind::Break => led_to(alloc, out),
         NodeKind::Next => led_to(alloc, end),
@@ -234,36 +174,28 @@ fn list_node(
 #[cycle(lists)]
 fn list_loop(
     alloc: Global,
-    homes: &Homes,
+    outline: &Outline,
+    next: &mut usize,
     body: &mut [Node],
     step: &mut [Node],
     on: &[u64],
 ) -> Result<Walked, NoMemory>
-    requires { AreHomes homes.now }
-    ensures used { IfOk result (λ w. Tells homes.now.bases.items w.on.items (λ i b. head_live i b (nodes_view body.old) (nodes_view step.old) (has on.now i))) }
-    ensures kept { IfOk result (λ w. w.kept ≡ true → AreKeptLoop homes.now.bases.items (nodes_view body.old) (nodes_view step.old) on.now) }
-    ensures body { OnOk result (nodes_view body.new ≡ used_listed (slot_in homes.now.bases.items) homes.now.bases.items (nodes_view body.old) (λ b. body_lives (slot_in homes.now.bases.items b) b (nodes_view body.old) (nodes_view step.old) (has on.now (slot_in homes.now.bases.items b)))) }
-    ensures step { OnOk result (nodes_view step.new ≡ used_listed (slot_in homes.now.bases.items) homes.now.bases.items (nodes_view step.old) (λ b. latch_lives (slot_in homes.now.bases.items b) b (nodes_view body.old) (nodes_view step.old) (has on.now (slot_in homes.now.bases.items b)))) }
+    requires homes { AreHomes outline.now.homes }
+    requires within { next.old + suc (loops (nodes_view body.old) + loops (nodes_view step.old)) ≤ length outline.now.heads.items }
+    requires heads { AreHeadsWithin outline.now.homes.bases.items outline.now.heads.items next.old (nodes_view body.old) (nodes_view step.old) }
+    ensures next { OnOk result (next.new ≡ next.old + suc (loops (nodes_view body.old) + loops (nodes_view step.old))) }
+    ensures used { IfOk result (λ w. Tells outline.now.homes.bases.items w.on.items (λ i b. head_live i b (nodes_view body.old) (nodes_view step.old) (has on.now i))) }
+    ensures kept { IfOk result (λ w. w.kept ≡ true → AreKeptLoop outline.now.homes.bases.items (nodes_view body.old) (nodes_view step.old) on.now) }
+    ensures body { OnOk result (nodes_view body.new ≡ used_listed (slot_in outline.now.homes.bases.items) outline.now.homes.bases.items (nodes_view body.old) (λ b. body_lives (slot_in outline.now.homes.bases.items b) b (nodes_view body.old) (nodes_view step.old) (has on.now (slot_in outline.now.homes.bases.items b)))) }
+    ensures step { OnOk result (nodes_view step.new ≡ used_listed (slot_in outline.now.homes.bases.items) outline.now.homes.bases.items (nodes_view step.old) (λ b. latch_lives (slot_in outline.now.homes.bases.items b) b (nodes_view body.old) (nodes_view step.old) (has on.now (slot_in outline.now.homes.bases.items b)))) }
 {
-    let head = head_used(alloc, homes, body, step, on)?;
+    let head = next_head(alloc, outline, next, on)?;
     let top = head.to_vec(alloc)?;
-    let latch = list_row(alloc, homes, step, top, on, &head)?;
+    let latch = list_row(alloc, outline, next, step, top, on, &head)?;
     let last = latch.on.to_vec(alloc)?;
-    let first = list_row(alloc, homes, body, last, on, &latch.on)?;
+    let first = list_row(alloc, outline, next, body, last, on, &latch.on)?;
     Ok(Walked {
         on: head,
         kept: both(first.kept, latch.kept),
     })
-}
-
-/// Whether the set has no numbers.
-pub(crate) fn is_empty(set: &[u64]) -> bool
-    ensures { result ≡ true → (i : ℕ) → has set.now i ≡ false }
-{
-    for word in set {
-        if *word != 0 {
-            return false;
-        }
-    }
-    true
 }

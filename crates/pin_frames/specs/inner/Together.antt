@@ -1,42 +1,13 @@
 -- All slots at once: sets of slots, and lists of those that are used later.
-use Rattle.std.specs.Prelude.{◌≡◌, ◌<◌, ◌^◌, not, ℕ, zero, suc, List, [], ◌∷◌, length, Some, Bool, true, ◌||◌, ◌&&◌, if◌then◌else◌}
-use Rattle.struct_ir.specs.Nodes.{Act, Node, plain, if_, loop, break_, next_, ret, Nodes, no_nodes, more_nodes}
-use Rattle.pin_flow.specs.declared.mark.Mark.TheVariants as kinds
-use Rattle.pin_flow.specs.Looks.{act_looks, act_assigns, looks_into}
-use Rattle.pin_flow.specs.Slots.{slot_if, IsIn}
-use Rattle.pin_flow.specs.Views.{looks_at, looks_slot, assigns_at}
+use Rattle.std.specs.Prelude.{◌≡◌, ℕ, zero, suc, List, [], ◌∷◌, Some, Bool, true, if◌then◌else◌}
+use Rattle.struct_ir.specs.Nodes.{Node, plain, if_, loop, break_, next_, ret, Nodes, no_nodes, more_nodes}
+use Rattle.pin_flow.specs.Slots.{slot_if}
 use Rattle.pin_flow.specs.Live.{Live, lives, live_act, live, body_lives, latch_lives}
-use Rattle.mark_sets.specs.Views.{bit_of}
+use Rattle.mark_sets.specs.Homes.{lives_in, keeps}
 use Rattle.mark_sets.specs.Words.{has}
-use Rattle.pin_frames.specs.declared.used.Homes.{Homes}
 use Rattle.pin_frames.specs.inner.Place.{act_listing, rest_lives}
 
--- ---- registers and their slots
-
--- each stands once
-abbrev pub AreOnce : List ℕ → Type 0
-AreOnce [] = Unit {0}
-AreOnce (b ∷ bs) = (IsIn bs b → ⊥) × AreOnce bs
-
--- there are few enough, each stands once, and its bit is its slot
-pub record IsHome (x : Homes) : Type 0 where
-  pub few : length x.bases.items < 2 ^ 32
-  pub once : AreOnce x.bases.items
-  pub bits : (b : ℕ) → bit_of x.marks (kinds.Held b) ≡ slot_if x.bases.items b
-
--- so it is with these
-unfoldable pub AreHomes : Homes → Type 0
-AreHomes x = IsHome x
-
 -- ---- sets
-
--- of each of the registers the set says whether its slot is used later
-abbrev pub Tells : List ℕ → List ℕ → (ℕ → ℕ → Bool) → Type 0
-Tells bs set used = (b i : ℕ) → slot_if bs b ≡ Some i → has set i ≡ used i b
-
--- what these three sets say of a slot
-abbrev pub lives_in : (on out end : List ℕ) → (i : ℕ) → Live
-lives_in on out end i = lives (has on i) (has out i) (has end i)
 
 -- the numbers of a function, from i on n of them, of which this is so
 abbrev pub numbers : (ℕ → Bool) → (i n : ℕ) → List ℕ
@@ -75,14 +46,6 @@ node_listing (next_ place) list = next_ place
 node_listing (ret place temp) list = ret place temp
 
 -- ---- where what is used later is held: each act keeps it
-
--- the act doesn't assign b, and looks into the slot for b alone
-abbrev pub keeps : (slot b : ℕ) → Act → Bool
-keeps slot b a = not (act_assigns b a) && (not (looks_into slot a) || act_looks b a)
-
--- the same of a node that is an act
-abbrev pub node_keeps : (slot b : ℕ) → Node → Bool
-node_keeps slot b n = not (assigns_at b n) && (not (looks_slot slot n) || looks_at b n)
 
 -- each act behind which an access of the slot and register comes later keeps them
 unfoldable mutual

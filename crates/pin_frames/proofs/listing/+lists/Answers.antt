@@ -12,7 +12,7 @@ use Rattle.pin_flow.proofs.FlowRows.{row_over, either_is, round_is, loop_from}
 use Rattle.pin_frames.specs.Views.{lives_view}
 use Rattle.pin_frames.specs.inner.Place.{listed_one, behind, last_in}
 use Rattle.pin_flow.proofs.InPlace.{row_set, row_done, ways_set, temp_of_if, row_within}
-use Rattle.pin_frames.proofs.LiveRows.{latch_from}
+use Rattle.mark_sets.proofs.LiveRows.{latch_from}
 use Rattle.pin_frames.proofs.ListRows.{last_behind, listed_more, popped_at, popped_set, if_listed, loop_listed}
 use Rattle.pin_frames.proofs.listing.+lists.Goals as goal
 

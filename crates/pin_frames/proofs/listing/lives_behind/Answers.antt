@@ -1,7 +1,7 @@
 use Rattle.std.proofs.Common.{[], ◌∷◌, ◌++◌, sym, ap, append-nil, ◌∙◌}
 use Rattle.pin_frames.specs.Views.{lives_view}
-use Rattle.pin_frames.proofs.Backwards.{step_back}
-use Rattle.pin_frames.proofs.LiveRows.{live_start, live_more}
+use Rattle.mark_sets.proofs.Backwards.{step_back}
+use Rattle.mark_sets.proofs.LiveRows.{live_start, live_more}
 use Rattle.pin_frames.proofs.ListRows.{behind_more}
 use Rattle.pin_frames.proofs.listing.lives_behind.Goals as goal
 

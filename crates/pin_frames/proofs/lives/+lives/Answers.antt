@@ -2,9 +2,9 @@ use Rattle.std.proofs.Common.{◌≡◌, true, inl, inr, sym, ap, [], ◌∷◌,
 use Rattle.struct_ir.specs.Views.{kind_view, node_view, nodes_view}
 use Rattle.pin_flow.specs.Live.{live, live_node}
 use Rattle.pin_frames.specs.Views.{lives_view}
-use Rattle.pin_frames.proofs.Backwards.{step_back, size_back, if_size, loop_size}
+use Rattle.mark_sets.proofs.Backwards.{step_back, size_back, if_size, loop_size}
 use Rattle.pin_flow.proofs.FlowRows.{is_plain, plain_of}
-use Rattle.pin_frames.proofs.LiveRows.{live_start, live_more, live_if, live_loop, live_act_at}
+use Rattle.mark_sets.proofs.LiveRows.{live_start, live_more, live_if, live_loop, live_act_at}
 use Rattle.pin_frames.proofs.lives.+lives.Goals as goal
 
 pub live_row-row-init : goal.live_row-row-init

@@ -6,13 +6,28 @@ use Rattle.pin_flow.specs.Slots.{slot_in}
 use Rattle.pin_flow.proofs.InPlace.{row_within}
 use Rattle.mark_sets.specs.Words.{has}
 use Rattle.pin_frames.specs.inner.Place.{listed, none_held, none_later}
-use Rattle.pin_frames.specs.inner.Together.{Tells, lives_in, used_listed, AreKept}
+use Rattle.mark_sets.specs.Added.{loops}
+use Rattle.mark_sets.specs.Heads.{AreHeads}
+use Rattle.mark_sets.specs.Homes.{Tells, lives_in}
+use Rattle.pin_frames.specs.inner.Together.{used_listed, AreKept}
 use Rattle.pin_frames.proofs.TogetherRows.{whole_listed}
 use Rattle.pin_frames.proofs.placing.list_together.Goals as goal
 
+pub list_row-requires : goal.list_row-requires
+list_row-requires c =
+    let o = c.args.outline.now in
+    let e : nodes_view c.deref_mut.result.now ≡ nodes_view c.args.code.now = ap nodes_view c.deref_mut.ensures.value ∙ c.in_ok-rows.ensures in
+    let l = ap loops e in
+    let n = c.requires.count in
+    record {
+      homes = c.requires.homes;
+      within = omega (arith, l, n);
+      heads = subst (λ y. AreHeads o.homes.bases.items o.heads.items 0 y) (sym e) c.requires.heads;
+    }
+
 pub returns-then-is_empty : goal.returns-then-is_empty
 returns-then-is_empty c =
-    let bs = c.args.homes.now.bases.items in
+    let bs = c.args.outline.now.homes.bases.items in
     let s = slot_in bs in
     let v = c.in_ok-rows.rows in
     let ys = c.list_row.new.rows in

@@ -1,7 +1,7 @@
 use Rattle.std.proofs.Common.{sym, subst}
 use Rattle.struct_ir.specs.Views.{nodes_view}
-use Rattle.pin_frames.specs.inner.Together.{AreOnce}
-use Rattle.pin_frames.proofs.Valid.{bases_once}
+use Rattle.mark_sets.specs.Homes.{AreOnce}
+use Rattle.mark_sets.proofs.HomeSlots.{bases_once}
 use Rattle.pin_frames.proofs.placing.place_func.Goals as goal
 
 pub list_bases-requires-clause-once : goal.list_bases-requires-clause-once

@@ -1,32 +1,40 @@
-use Rattle.std.proofs.Common.{◌≡◌, ◌<◌, ◌+◌, ◌-◌, ℕ, [], ◌∷◌, length, drop, get_or, true, inl, inr, refl, sym, ap, subst, ◌∙◌, arith, rules}
+use Rattle.std.proofs.Common.{◌≡◌, ◌<◌, ◌+◌, ◌-◌, ℕ, suc, [], ◌∷◌, length, drop, get_or, true, inl, inr, refl, sym, ap, subst, ◌∙◌, arith, rules}
 use Rattle.std.specs.Global.{Vec}
 use Rattle.std.specs.Vec.{with_items}
 use Rattle.std.proofs.lemmas.Bool.{and_parts}
-use Rattle.std.proofs.lemmas.Result.{IfOk-weaker}
+use Rattle.std.proofs.lemmas.Result.{IfOk-weaker, on_ok_weaker}
 use Rattle.struct_ir.specs.Structured.{row_size, node_size}
 use Rattle.struct_ir.specs.declared.code.Node.{Node as CodeNode}
 use Rattle.struct_ir.specs.declared.code.NodeKind.TheViews as views
 use Rattle.struct_ir.specs.Views.{kind_view, node_view, nodes_view}
+use Rattle.struct_ir.proofs.Views.{if_is, loop_is}
 use Rattle.pin_flow.specs.Live.{Live, live, live_node, head_live, body_lives, latch_lives}
 use Rattle.pin_flow.specs.Slots.{slot_in}
 use Rattle.pin_flow.proofs.FlowRows.{is_plain, plain_of}
 use Rattle.pin_flow.proofs.InPlace.{temp_of_if, row_within}
 use Rattle.mark_sets.specs.Words.{has}
 use Rattle.mark_sets.proofs.Bits.{on_both}
-use Rattle.pin_frames.specs.inner.Together.{Tells, lives_in, used_listed, used_listed_in, AreKept, AreKeptIn, AreKeptLoop}
-use Rattle.pin_frames.proofs.Backwards.{if_size, loop_size}
-use Rattle.pin_frames.proofs.LiveRows.{live_more, live_if, live_head}
-use Rattle.pin_frames.proofs.TogetherRows.{has_nothing, same_item, put_item, rest_is, size_at, start_rows, start_made, start_used, start_kept, node_more, kept_more, if_done, if_kept, body_done, latch_done, both_kept, loop_done, loop_kept, act_told, act_keeps, way_kept, kept_at}
+use Rattle.mark_sets.specs.Added.{loops, loops_in}
+use Rattle.mark_sets.specs.Heads.{AreHeads, AreHeadsIn}
+use Rattle.mark_sets.specs.Homes.{Tells, lives_in}
+use Rattle.pin_frames.specs.inner.Together.{used_listed, used_listed_in, AreKept, AreKeptIn, AreKeptLoop}
+use Rattle.mark_sets.proofs.Backwards.{if_size, loop_size}
+use Rattle.mark_sets.proofs.LiveRows.{live_more, live_if, live_head}
+use Rattle.mark_sets.proofs.HeadRows.{none_over, plain_has_none, heads_in, within_in, next_in}
+use Rattle.mark_sets.proofs.HomeSlots.{has_nothing}
+use Rattle.pin_frames.proofs.TogetherRows.{same_item, put_item, rest_is, size_at, start_rows, start_made, start_used, start_kept, node_more, kept_more, if_done, if_kept, body_done, latch_done, both_kept, loop_done, loop_kept, act_keeps, way_kept, kept_at}
+use Rattle.mark_sets.proofs.Told.{act_told}
 use Rattle.pin_frames.proofs.together.+lists.Goals as goal
 
 -- ---- rows
 
 pub list_row-row-init : goal.list_row-row-init
 list_row-row-init t c =
-    let bs = c.args.homes.now.bases.items in
+    let bs = c.args.outline.now.homes.bases.items in
     let all = c.args.rows.now in
     record {
       few = omega arith;
+      next = none_over all (length all) c.args.next.now (omega arith);
       made = ([], start_rows bs c.args.on.items c.args.out.now c.args.end.now all (length all) (omega arith), start_made bs c.args.on.items c.args.out.now c.args.end.now all (length all) (omega arith));
       used = start_used bs c.args.on.items c.args.out.now c.args.end.now all (length all) (omega arith);
       kept = λ g. start_kept bs c.args.on.items c.args.out.now c.args.end.now all (length all) (omega arith);
@@ -43,11 +51,23 @@ list_row-list_node-requires t c =
     let here : x ≡ get_or all k x = same_item all xs m.0 k c.row.left next c.row.invariant.few m.1 x c.index-rows-left.is in
     let lt : k < length all = (let f = c.row.invariant.few in omega (arith, f)) in
     let h : node_size (node_view (get_or xs k x)) < row_size (nodes_view all) = subst (λ z. node_size (node_view z) < row_size (nodes_view all)) c.index-rows-left.is (size_at all k x lt here) in
-    (omega (arith, h), c.requires)
+    let old : get_or xs k x ≡ x = sym c.index-rows-left.is in
+    let cut : drop k all ≡ x ∷ drop c.row.left all = rest_is all k c.row.left x next c.row.invariant.few here in
+    let o = c.args.outline.now in
+    let i = c.row.invariant.next in (
+      omega (arith, h),
+      (
+        c.requires.homes,
+        (
+          within_in o.homes.bases.items o.heads.items c.args.next.now c.row.next k c.row.left all x (get_or xs k x) cut i old c.requires.within,
+          heads_in o.homes.bases.items o.heads.items c.args.next.now c.row.next k c.row.left all x (get_or xs k x) cut i old c.requires.heads,
+        ),
+      ),
+    )
 
 pub list_row-row-preserved : goal.list_row-row-preserved
 list_row-row-preserved t c =
-    let bs = c.args.homes.now.bases.items in
+    let bs = c.args.outline.now.homes.bases.items in
     let on = c.args.on.items in
     let out = c.args.out.now in
     let end = c.args.end.now in
@@ -66,6 +86,7 @@ list_row-row-preserved t c =
     let old : get_or xs k x ≡ x = sym c.index-rows-left.is in
     record {
       few = (let f = c.row.invariant.few in omega (arith, f));
+      next = next_in bs c.args.outline.now.heads.items c.args.next.now c.row.next k c.row.left all x (get_or xs k x) cut c.row.invariant.next old c.list_node.new.next c.in_ok-node.ensures.next;
       made = (
         y ∷ m.0,
         put_item all xs m.0 k c.row.left next c.row.invariant.few m.1 y,
@@ -89,13 +110,33 @@ pub list_node-list_row-requires : goal.list_node-list_row-requires
 list_node-list_row-requires t c =
     let e = if_size c.args.n.now c.in-If.field-0 c.in-If.one c.in-If.other c.in-If.is in
     let d = c.deref_mut.ensures.value ∙ ap (λ (u : Vec CodeNode). u.items) c.in-If.one-is in
-    rw d (omega (arith, e), c.requires)
+    let is = if_is c.args.n.now c.in-If.field-0 c.in-If.one c.in-If.other c.in-If.is in
+    let l = ap loops_in is in
+    let w = c.requires.within in
+    let a = subst (λ y. AreHeadsIn c.args.outline.now.homes.bases.items c.args.outline.now.heads.items c.args.next.now y) is c.requires.heads in
+    rw d (omega (arith, e), (c.requires.homes, (omega (arith, l, w), a.0)))
 
 pub list_node-list_row-requires-in-If : goal.list_node-list_row-requires-in-If
 list_node-list_row-requires-in-If t c =
     let e = if_size c.args.n.now c.in-If.field-0 c.in-If.one c.in-If.other c.in-If.is in
+    let d0 = c.deref_mut.ensures.value ∙ ap (λ (u : Vec CodeNode). u.items) c.in-If.one-is in
     let d = c.deref_mut-in-If.ensures.value ∙ ap (λ (u : Vec CodeNode). u.items) c.in-If.other-is in
-    rw d (omega (arith, e), c.requires)
+    let is = if_is c.args.n.now c.in-If.field-0 c.in-If.one c.in-If.other c.in-If.is in
+    let l = ap loops_in is in
+    let w = c.requires.within in
+    let f = c.in_ok-first-in-If.ensures.next ∙ ap (λ y. c.args.next.now + loops (nodes_view y)) d0 in
+    let a = subst (λ y. AreHeadsIn c.args.outline.now.homes.bases.items c.args.outline.now.heads.items c.args.next.now y) is c.requires.heads in
+    let b = subst (λ k. AreHeads c.args.outline.now.homes.bases.items c.args.outline.now.heads.items k (nodes_view c.in-If.other.items)) (sym f) a.1 in
+    rw d (omega (arith, e), (c.requires.homes, (omega (arith, l, w, f), b)))
+
+pub list_node-returns-in_ok-second-in-If-clause-next : goal.list_node-returns-in_ok-second-in-If-clause-next
+list_node-returns-in_ok-second-in-If-clause-next t c =
+    let d0 = c.deref_mut.ensures.value ∙ ap (λ (u : Vec CodeNode). u.items) c.in-If.one-is in
+    let d1 = c.deref_mut-in-If.ensures.value ∙ ap (λ (u : Vec CodeNode). u.items) c.in-If.other-is in
+    let l = ap loops_in (if_is c.args.n.now c.in-If.field-0 c.in-If.one c.in-If.other c.in-If.is) in
+    let f = c.in_ok-first-in-If.ensures.next ∙ ap (λ y. c.args.next.now + loops (nodes_view y)) d0 in
+    let g = c.in_ok-second-in-If.ensures.next ∙ ap (λ y. c.list_row.new.next + loops (nodes_view y)) d1 in
+    omega (arith, l, f, g)
 
 pub list_node-returns-in_ok-second-in-If-clause-used : goal.list_node-returns-in_ok-second-in-If-clause-used
 list_node-returns-in_ok-second-in-If-clause-used t c =
@@ -112,7 +153,7 @@ list_node-returns-in_ok-second-in-If-clause-used t c =
 
 pub list_node-returns-in_ok-second-in-If-clause-kept : goal.list_node-returns-in_ok-second-in-If-clause-kept
 list_node-returns-in_ok-second-in-If-clause-kept t c = λ g.
-    let bs = c.args.homes.now.bases.items in
+    let bs = c.args.outline.now.homes.bases.items in
     let out = c.args.out.now in
     let end = c.args.end.now in
     let again : c.in_ok-start-in-If.start.items ≡ c.args.on.items = search rules in
@@ -125,7 +166,7 @@ list_node-returns-in_ok-second-in-If-clause-kept t c = λ g.
 
 pub list_node-returns-in_ok-second-in-If-clause-node : goal.list_node-returns-in_ok-second-in-If-clause-node
 list_node-returns-in_ok-second-in-If-clause-node t c =
-    let bs = c.args.homes.now.bases.items in
+    let bs = c.args.outline.now.homes.bases.items in
     let s = slot_in bs in
     let on = c.args.on.items in
     let out = c.args.out.now in
@@ -147,19 +188,58 @@ list_node-returns-in_ok-second-in-If-clause-node t c =
 
 -- ---- loops
 
+pub list_loop-next_head-requires : goal.list_loop-next_head-requires
+list_loop-next_head-requires t c = let w = c.requires.within in omega (arith, w)
+
 pub list_loop-list_row-requires : goal.list_loop-list_row-requires
-list_loop-list_row-requires t c = (omega arith, c.requires)
+list_loop-list_row-requires t c =
+    let o = c.args.outline.now in
+    let w = c.requires.within in
+    let f = c.in_ok-head.ensures.next in (
+      omega arith,
+      (
+        c.requires.homes,
+        (
+          omega (arith, w, f),
+          subst (λ k. AreHeads o.homes.bases.items o.heads.items k (nodes_view c.args.step.now)) (omega (arith, f)) c.requires.heads.1,
+        ),
+      ),
+    )
 
 pub list_loop-list_row-requires-2 : goal.list_loop-list_row-requires-2
-list_loop-list_row-requires-2 t c = (omega arith, c.requires)
+list_loop-list_row-requires-2 t c =
+    let o = c.args.outline.now in
+    let w = c.requires.within in
+    let f = c.in_ok-head.ensures.next in
+    let g = c.in_ok-latch.ensures.next in (
+      omega arith,
+      (
+        c.requires.homes,
+        (
+          omega (arith, w, f, g),
+          subst (λ k. AreHeads o.homes.bases.items o.heads.items k (nodes_view c.args.body.now)) (omega (arith, f, g)) c.requires.heads.2,
+        ),
+      ),
+    )
+
+pub list_loop-returns-clause-next : goal.list_loop-returns-clause-next
+list_loop-returns-clause-next t c =
+    let f = c.in_ok-head.ensures.next in
+    let g = c.in_ok-latch.ensures.next in
+    let h = c.in_ok-first.ensures.next in
+    omega (arith, f, g, h)
+
+pub list_loop-returns-clause-used : goal.list_loop-returns-clause-used
+list_loop-returns-clause-used t c = λ b i e. c.in_ok-head.ensures.head i ∙ c.requires.heads.0 b i (has c.args.on.now i) e
 
 pub list_loop-returns-clause-kept : goal.list_loop-returns-clause-kept
 list_loop-returns-clause-kept t c = λ g.
-    let bs = c.args.homes.now.bases.items in
+    let bs = c.args.outline.now.homes.bases.items in
     let on = c.args.on.now in
     let body = nodes_view c.args.body.now in
     let step = nodes_view c.args.step.now in
     let head = c.in_ok-head.head.items in
+    let heads : Tells bs head (λ i b. head_live i b body step (has on i)) = λ b i e. c.in_ok-head.ensures.head i ∙ c.requires.heads.0 b i (has on i) e in
     let top = c.in_ok-top.top.items in
     let latch = c.in_ok-latch.latch in
     let last = c.in_ok-last.last.items in
@@ -169,17 +249,18 @@ list_loop-returns-clause-kept t c = λ g.
     let same : last ≡ latch.on.items = search rules in
     let ends : Tells bs latch.on.items (λ i b. live i b step (lives_in top on head i)) = λ b i e. c.in_ok-latch.ensures.used b i e ∙ (λ j. live i b step (lives_in top on (h j) i)) in
     let p = and_parts c.in_ok-first.first.kept latch.kept (sym c.both.ensures ∙ g) in
-    both_kept bs on head top latch.on.items body step tops last same c.in_ok-head.ensures ends
+    both_kept bs on head top latch.on.items body step tops last same heads ends
     (kept_at bs last refl refl l (c.in_ok-first.ensures.kept p.0))
     (kept_at bs top refl refl h (c.in_ok-latch.ensures.kept p.1))
 
 pub list_loop-returns-clause-body : goal.list_loop-returns-clause-body
 list_loop-returns-clause-body t c =
-    let bs = c.args.homes.now.bases.items in
+    let bs = c.args.outline.now.homes.bases.items in
     let on = c.args.on.now in
     let body = nodes_view c.args.body.now in
     let step = nodes_view c.args.step.now in
     let head = c.in_ok-head.head.items in
+    let heads : Tells bs head (λ i b. head_live i b body step (has on i)) = λ b i e. c.in_ok-head.ensures.head i ∙ c.requires.heads.0 b i (has on i) e in
     let top = c.in_ok-top.top.items in
     let latch = c.in_ok-latch.latch in
     let last = c.in_ok-last.last.items in
@@ -188,16 +269,17 @@ list_loop-returns-clause-body t c =
     let tops : top ≡ head = search rules in
     let same : last ≡ latch.on.items = search rules in
     let ends : Tells bs latch.on.items (λ i b. live i b step (lives_in top on head i)) = λ b i e. c.in_ok-latch.ensures.used b i e ∙ (λ j. live i b step (lives_in top on (h j) i)) in
-    body_done bs on head top latch.on.items body step tops last same c.in_ok-head.ensures ends _
+    body_done bs on head top latch.on.items body step tops last same heads ends _
     (c.in_ok-first.ensures.row ∙ (λ j. used_listed (slot_in bs) bs body (λ b. lives_in last on (l j) (slot_in bs b))))
 
 pub list_loop-returns-clause-step : goal.list_loop-returns-clause-step
 list_loop-returns-clause-step t c =
-    let bs = c.args.homes.now.bases.items in
+    let bs = c.args.outline.now.homes.bases.items in
     let on = c.args.on.now in
     let body = nodes_view c.args.body.now in
     let step = nodes_view c.args.step.now in
     let head = c.in_ok-head.head.items in
+    let heads : Tells bs head (λ i b. head_live i b body step (has on i)) = λ b i e. c.in_ok-head.ensures.head i ∙ c.requires.heads.0 b i (has on i) e in
     let top = c.in_ok-top.top.items in
     let latch = c.in_ok-latch.latch in
     let last = c.in_ok-last.last.items in
@@ -205,7 +287,7 @@ list_loop-returns-clause-step t c =
     let tops : top ≡ head = search rules in
     let same : last ≡ latch.on.items = search rules in
     let ends : Tells bs latch.on.items (λ i b. live i b step (lives_in top on head i)) = λ b i e. c.in_ok-latch.ensures.used b i e ∙ (λ j. live i b step (lives_in top on (h j) i)) in
-    latch_done bs on head top latch.on.items body step tops last same c.in_ok-head.ensures ends _
+    latch_done bs on head top latch.on.items body step tops last same heads ends _
     (c.in_ok-latch.ensures.row ∙ (λ j. used_listed (slot_in bs) bs step (λ b. lives_in top on (h j) (slot_in bs b))))
 
 pub list_node-list_loop-requires : goal.list_node-list_loop-requires
@@ -213,11 +295,24 @@ list_node-list_loop-requires t c =
     let e = loop_size c.args.n.now c.in-Loop.body c.in-Loop.step c.in-Loop.is in
     let d0 = c.deref_mut-in-Loop.ensures.value ∙ ap (λ (u : Vec CodeNode). u.items) c.in-Loop.body-is in
     let d1 = c.deref_mut-in-Loop-2.ensures.value ∙ ap (λ (u : Vec CodeNode). u.items) c.in-Loop.step-is in
-    rw (d0, d1) (omega (arith, e), c.requires)
+    let is = loop_is c.args.n.now c.in-Loop.body c.in-Loop.step c.in-Loop.is in
+    let l = ap loops_in is in
+    let w = c.requires.within in
+    let a = subst (λ y. AreHeadsIn c.args.outline.now.homes.bases.items c.args.outline.now.heads.items c.args.next.now y) is c.requires.heads in
+    rw (d0, d1) (omega (arith, e), (c.requires.homes, (omega (arith, l, w), a)))
+
+pub list_node-returns-in-Loop-clause-next : goal.list_node-returns-in-Loop-clause-next
+list_node-returns-in-Loop-clause-next t c =
+    let d0 = c.deref_mut-in-Loop.ensures.value ∙ ap (λ (u : Vec CodeNode). u.items) c.in-Loop.body-is in
+    let d1 = c.deref_mut-in-Loop-2.ensures.value ∙ ap (λ (u : Vec CodeNode). u.items) c.in-Loop.step-is in
+    let l = ap loops_in (loop_is c.args.n.now c.in-Loop.body c.in-Loop.step c.in-Loop.is) in
+    on_ok_weaker c.list_loop.result (λ f.
+    let g = f ∙ (λ j. c.args.next.now + suc (loops (nodes_view (d0 j)) + loops (nodes_view (d1 j)))) in
+    omega (arith, l, g)) c.list_loop.ensures.next
 
 pub list_node-returns-in-Loop-clause-used : goal.list_node-returns-in-Loop-clause-used
 list_node-returns-in-Loop-clause-used t c =
-    let bs = c.args.homes.now.bases.items in
+    let bs = c.args.outline.now.homes.bases.items in
     let d0 = c.deref_mut-in-Loop.ensures.value ∙ ap (λ (u : Vec CodeNode). u.items) c.in-Loop.body-is in
     let d1 = c.deref_mut-in-Loop-2.ensures.value ∙ ap (λ (u : Vec CodeNode). u.items) c.in-Loop.step-is in
     let o = c.deref-in-Loop.ensures.value in
@@ -229,7 +324,7 @@ list_node-returns-in-Loop-clause-used t c =
 
 pub list_node-returns-in-Loop-clause-kept : goal.list_node-returns-in-Loop-clause-kept
 list_node-returns-in-Loop-clause-kept t c =
-    let bs = c.args.homes.now.bases.items in
+    let bs = c.args.outline.now.homes.bases.items in
     let v = c.in-Loop.body in
     let w = c.in-Loop.step in
     let d0 : c.deref_mut-in-Loop.result.now ≡ v.items = c.deref_mut-in-Loop.ensures.value ∙ ap (λ (u : Vec CodeNode). u.items) c.in-Loop.body-is in
@@ -242,7 +337,7 @@ list_node-returns-in-Loop-clause-kept t c =
 
 pub list_node-returns-in-Loop-clause-node : goal.list_node-returns-in-Loop-clause-node
 list_node-returns-in-Loop-clause-node t c =
-    let bs = c.args.homes.now.bases.items in
+    let bs = c.args.outline.now.homes.bases.items in
     let s = slot_in bs in
     let on = c.args.on.items in
     let ls : ℕ → Live = λ b. lives_in on c.args.out.now c.args.end.now (slot_in bs b) in
@@ -265,29 +360,44 @@ list_node-returns-in-Loop-clause-node t c =
 
 -- ---- the others
 
+pub list_node-returns-in-Break-clause-next : goal.list_node-returns-in-Break-clause-next
+list_node-returns-in-Break-clause-next t c =
+    let z : loops_in (node_view c.args.n.now) ≡ 0 = ap (λ k. loops_in (kind_view c.args.n.now.place k)) c.in-Break.is in
+    IfOk-weaker c.led_to.result (λ w. w.on.items ≡ c.args.out.now) (λ w. c.args.next.now ≡ c.args.next.now + loops_in (node_view c.args.n.now)) (λ w f. omega (arith, z)) c.led_to.ensures
+
 pub list_node-returns-in-Break-clause-used : goal.list_node-returns-in-Break-clause-used
 unfolding live
 list_node-returns-in-Break-clause-used t c =
     IfOk-weaker c.led_to.result (λ w. w.on.items ≡ c.args.out.now)
-    (λ w. Tells c.args.homes.now.bases.items w.on.items (λ i b. live_node i b (node_view c.args.n.now) (lives_in c.args.on.items c.args.out.now c.args.end.now i)))
+    (λ w. Tells c.args.outline.now.homes.bases.items w.on.items (λ i b. live_node i b (node_view c.args.n.now) (lives_in c.args.on.items c.args.out.now c.args.end.now i)))
     (λ w f b i e. ap (λ l. has l i) f ∙ ap (λ k. live_node i b (kind_view c.args.n.now.place k) (lives_in c.args.on.items c.args.out.now c.args.end.now i)) (sym c.in-Break.is)) c.led_to.ensures
 
 pub list_node-returns-in-Break-clause-kept : goal.list_node-returns-in-Break-clause-kept
 list_node-returns-in-Break-clause-kept t c =
-    IfOk-weaker c.led_to.result (λ w. w.on.items ≡ c.args.out.now) (λ w. w.kept ≡ true → AreKeptIn c.args.homes.now.bases.items (node_view c.args.n.now) c.args.on.items c.args.out.now c.args.end.now)
+    IfOk-weaker c.led_to.result (λ w. w.on.items ≡ c.args.out.now) (λ w. w.kept ≡ true → AreKeptIn c.args.outline.now.homes.bases.items (node_view c.args.n.now) c.args.on.items c.args.out.now c.args.end.now)
     (λ w f g b i e. way_kept i b c.args.n.now _ (lives_in c.args.on.items c.args.out.now c.args.end.now i) c.in-Break.is refl) c.led_to.ensures
+
+pub list_node-returns-in-Next-clause-next : goal.list_node-returns-in-Next-clause-next
+list_node-returns-in-Next-clause-next t c =
+    let z : loops_in (node_view c.args.n.now) ≡ 0 = ap (λ k. loops_in (kind_view c.args.n.now.place k)) c.in-Next.is in
+    IfOk-weaker c.led_to-in-Next.result (λ w. w.on.items ≡ c.args.end.now) (λ w. c.args.next.now ≡ c.args.next.now + loops_in (node_view c.args.n.now)) (λ w f. omega (arith, z)) c.led_to-in-Next.ensures
 
 pub list_node-returns-in-Next-clause-used : goal.list_node-returns-in-Next-clause-used
 unfolding live
 list_node-returns-in-Next-clause-used t c =
     IfOk-weaker c.led_to-in-Next.result (λ w. w.on.items ≡ c.args.end.now)
-    (λ w. Tells c.args.homes.now.bases.items w.on.items (λ i b. live_node i b (node_view c.args.n.now) (lives_in c.args.on.items c.args.out.now c.args.end.now i)))
+    (λ w. Tells c.args.outline.now.homes.bases.items w.on.items (λ i b. live_node i b (node_view c.args.n.now) (lives_in c.args.on.items c.args.out.now c.args.end.now i)))
     (λ w f b i e. ap (λ l. has l i) f ∙ ap (λ k. live_node i b (kind_view c.args.n.now.place k) (lives_in c.args.on.items c.args.out.now c.args.end.now i)) (sym c.in-Next.is)) c.led_to-in-Next.ensures
 
 pub list_node-returns-in-Next-clause-kept : goal.list_node-returns-in-Next-clause-kept
 list_node-returns-in-Next-clause-kept t c =
-    IfOk-weaker c.led_to-in-Next.result (λ w. w.on.items ≡ c.args.end.now) (λ w. w.kept ≡ true → AreKeptIn c.args.homes.now.bases.items (node_view c.args.n.now) c.args.on.items c.args.out.now c.args.end.now)
+    IfOk-weaker c.led_to-in-Next.result (λ w. w.on.items ≡ c.args.end.now) (λ w. w.kept ≡ true → AreKeptIn c.args.outline.now.homes.bases.items (node_view c.args.n.now) c.args.on.items c.args.out.now c.args.end.now)
     (λ w f g b i e. way_kept i b c.args.n.now _ (lives_in c.args.on.items c.args.out.now c.args.end.now i) c.in-Next.is refl) c.led_to-in-Next.ensures
+
+pub list_node-returns-in-Ret-clause-next : goal.list_node-returns-in-Ret-clause-next
+list_node-returns-in-Ret-clause-next t c =
+    let z : loops_in (node_view c.args.n.now) ≡ 0 = ap (λ k. loops_in (kind_view c.args.n.now.place k)) c.in-Ret.is in
+    omega (arith, z)
 
 pub list_node-returns-in-Ret-clause-used : goal.list_node-returns-in-Ret-clause-used
 unfolding live
@@ -297,6 +407,17 @@ list_node-returns-in-Ret-clause-used t c = λ b i e.
 pub list_node-returns-in-Ret-clause-kept : goal.list_node-returns-in-Ret-clause-kept
 list_node-returns-in-Ret-clause-kept t c = λ g b i e. way_kept i b c.args.n.now _ (lives_in c.args.on.items c.args.out.now c.args.end.now i) c.in-Ret.is refl
 
+pub list_node-returns-in-Set-clause-next : goal.list_node-returns-in-Set-clause-next
+list_node-returns-in-Set-clause-next t c =
+    let l : is_plain (node_view c.args.n.now) ≡ true = elim c.in-Set.is [
+      | inl (x, y, e) ↦ plain_of c.args.n.now _ e refl
+      | inr (inl (x, e)) ↦ plain_of c.args.n.now _ e refl
+      | inr (inr (inl (x, e))) ↦ plain_of c.args.n.now _ e refl
+      | inr (inr (inr (x, y, e))) ↦ plain_of c.args.n.now _ e refl
+    ] in
+    let z = plain_has_none (node_view c.args.n.now) l in
+    on_ok_weaker c.list_act-in-Set.result (λ e. omega (arith, z)) c.list_act-in-Set.ensures.node
+
 pub list_node-returns-in-Set-clause-used : goal.list_node-returns-in-Set-clause-used
 list_node-returns-in-Set-clause-used t c =
     let l : is_plain (node_view c.args.n.now) ≡ true = elim c.in-Set.is [
@@ -305,7 +426,7 @@ list_node-returns-in-Set-clause-used t c =
       | inr (inr (inl (x, e))) ↦ plain_of c.args.n.now _ e refl
       | inr (inr (inr (x, y, e))) ↦ plain_of c.args.n.now _ e refl
     ] in
-    let bs = c.args.homes.now.bases.items in
+    let bs = c.args.outline.now.homes.bases.items in
     act_told c.list_act-in-Set.result bs c.args.on.items c.args.out.now c.args.end.now _ c.args.n.now c.list_act-in-Set.ensures.used (search (rules, views.the_lemmas, c.in-Set.is)) l
 
 pub list_node-returns-in-Set-clause-kept : goal.list_node-returns-in-Set-clause-kept
@@ -316,8 +437,18 @@ list_node-returns-in-Set-clause-kept t c =
       | inr (inr (inl (x, e))) ↦ plain_of c.args.n.now _ e refl
       | inr (inr (inr (x, y, e))) ↦ plain_of c.args.n.now _ e refl
     ] in
-    let bs = c.args.homes.now.bases.items in
+    let bs = c.args.outline.now.homes.bases.items in
     act_keeps c.list_act-in-Set.result bs c.args.on.items c.args.out.now c.args.end.now _ c.args.n.now c.list_act-in-Set.ensures.kept (search (rules, views.the_lemmas, c.in-Set.is)) l
+
+pub list_node-returns-in-Safepoint-clause-next : goal.list_node-returns-in-Safepoint-clause-next
+list_node-returns-in-Safepoint-clause-next t c =
+    let l : is_plain (node_view c.args.n.now) ≡ true = elim c.in-Safepoint.is [
+      | inl (x, e) ↦ plain_of c.args.n.now _ e refl
+      | inr (inl (x, e)) ↦ plain_of c.args.n.now _ e refl
+      | inr (inr (x, e)) ↦ plain_of c.args.n.now _ e refl
+    ] in
+    let z = plain_has_none (node_view c.args.n.now) l in
+    on_ok_weaker c.list_act.result (λ e. omega (arith, z)) c.list_act.ensures.node
 
 pub list_node-returns-in-Safepoint-clause-used : goal.list_node-returns-in-Safepoint-clause-used
 list_node-returns-in-Safepoint-clause-used t c =
@@ -326,7 +457,7 @@ list_node-returns-in-Safepoint-clause-used t c =
       | inr (inl (x, e)) ↦ plain_of c.args.n.now _ e refl
       | inr (inr (x, e)) ↦ plain_of c.args.n.now _ e refl
     ] in
-    let bs = c.args.homes.now.bases.items in
+    let bs = c.args.outline.now.homes.bases.items in
     act_told c.list_act.result bs c.args.on.items c.args.out.now c.args.end.now _ c.args.n.now c.list_act.ensures.used (search (rules, views.the_lemmas, c.in-Safepoint.is)) l
 
 pub list_node-returns-in-Safepoint-clause-kept : goal.list_node-returns-in-Safepoint-clause-kept
@@ -336,5 +467,5 @@ list_node-returns-in-Safepoint-clause-kept t c =
       | inr (inl (x, e)) ↦ plain_of c.args.n.now _ e refl
       | inr (inr (x, e)) ↦ plain_of c.args.n.now _ e refl
     ] in
-    let bs = c.args.homes.now.bases.items in
+    let bs = c.args.outline.now.homes.bases.items in
     act_keeps c.list_act.result bs c.args.on.items c.args.out.now c.args.end.now _ c.args.n.now c.list_act.ensures.kept (search (rules, views.the_lemmas, c.in-Safepoint.is)) l

@@ -4,7 +4,9 @@ use Rattle.struct_ir.specs.declared.code.Node.{Node as CodeNode}
 use Rattle.struct_ir.specs.Views.{node_view, nodes_view}
 use Rattle.pin_flow.specs.Live.{live}
 use Rattle.pin_flow.specs.Slots.{slot_in}
-use Rattle.pin_frames.specs.inner.Together.{Tells, lives_in, used_listed, AreKept}
+use Rattle.mark_sets.specs.Added.{loops}
+use Rattle.mark_sets.specs.Homes.{Tells, lives_in}
+use Rattle.pin_frames.specs.inner.Together.{used_listed, AreKept}
 use Rattle.pin_frames.proofs.together.+lists.Given as goal
 
 abbrev pub decreases-list_row : goal.decreases-list_row
@@ -20,9 +22,10 @@ decreases-list_loop l = row_size (nodes_view l.body.now) + row_size (nodes_view 
 abbrev pub invariant-list_row-row : goal.invariant-list_row-row
 invariant-list_row-row l = record {
   few : l.left ≤ length l.fn.rows;
-  made : (done : List CodeNode) × (l.rows ≡ take l.left l.fn.rows ++ done) × (nodes_view done ≡ used_listed (slot_in l.homes.bases.items) l.homes.bases.items (nodes_view (drop l.left l.fn.rows)) (λ b. lives_in l.fn.on.items l.out l.end (slot_in l.homes.bases.items b)));
-  used : Tells l.homes.bases.items l.set.items (λ i b. live i b (nodes_view (drop l.left l.fn.rows)) (lives_in l.fn.on.items l.out l.end i));
-  kept : l.kept ≡ true → AreKept l.homes.bases.items (nodes_view (drop l.left l.fn.rows)) l.fn.on.items l.out l.end;
+  next : l.next ≡ l.fn.next + loops (nodes_view (drop l.left l.fn.rows));
+  made : (done : List CodeNode) × (l.rows ≡ take l.left l.fn.rows ++ done) × (nodes_view done ≡ used_listed (slot_in l.outline.homes.bases.items) l.outline.homes.bases.items (nodes_view (drop l.left l.fn.rows)) (λ b. lives_in l.fn.on.items l.out l.end (slot_in l.outline.homes.bases.items b)));
+  used : Tells l.outline.homes.bases.items l.set.items (λ i b. live i b (nodes_view (drop l.left l.fn.rows)) (lives_in l.fn.on.items l.out l.end i));
+  kept : l.kept ≡ true → AreKept l.outline.homes.bases.items (nodes_view (drop l.left l.fn.rows)) l.fn.on.items l.out l.end;
 }
 
 abbrev pub decreases-list_row-row : goal.decreases-list_row-row

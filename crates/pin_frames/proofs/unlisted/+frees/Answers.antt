@@ -3,9 +3,9 @@ use Rattle.std.proofs.lemmas.Option.{IfSome_then}
 use Rattle.struct_ir.specs.Views.{kind_view, node_view, nodes_view}
 use Rattle.pin_flow.specs.Live.{live, live_node, head_live}
 use Rattle.pin_frames.specs.Views.{lives_view}
-use Rattle.pin_frames.proofs.Backwards.{step_back, size_back, if_size, loop_size}
+use Rattle.mark_sets.proofs.Backwards.{step_back, size_back, if_size, loop_size}
 use Rattle.pin_flow.proofs.FlowRows.{is_plain, plain_of}
-use Rattle.pin_frames.proofs.LiveRows.{live_start, live_more, live_if, live_head, latch_from, live_act_at}
+use Rattle.mark_sets.proofs.LiveRows.{live_start, live_more, live_if, live_head, latch_from, live_act_at}
 use Rattle.pin_frames.proofs.FreeRows.{IsFree, free_more, if_free, loop_free}
 use Rattle.pin_frames.proofs.unlisted.+frees.Goals as goal
 

@@ -1,6 +1,0 @@
-use Rattle.std.proofs.Common.{arith}
-use Rattle.pin_frames.proofs.SlotSets.{none_in}
-use Rattle.pin_frames.proofs.together.is_empty.Goals as goal
-
-pub returns : goal.returns
-returns c = λ r. none_in c.args.set.now c.loop-word.word-index c.loop-word.invariant (omega arith)
