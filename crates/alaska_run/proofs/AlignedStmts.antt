@@ -139,7 +139,10 @@ mutual
   form_aligned f a place (tree.while_ e body) left rest g =
       loop_aligned (looped f) place body _ no_nodes rest (test_aligned (looped f) (Some e) _ (stmt_aligned (looped f) a body [] no_nodes tt)) tt g
   form_aligned f a place (tree.for_ first e last body) left rest g =
-      for_aligned (opened f (objects_by f first [])) a place (objects_by f first []) first e last body left rest g
+      let inner : Frame = opened f (objects_by f first []) in
+      stmt_aligned inner a first left _
+      (loop_aligned (looped inner) place body _ _ _ (test_aligned (looped inner) e _ (stmt_aligned (looped inner) a body [] no_nodes tt)) (stmt_aligned (looped inner) a last [] no_nodes tt)
+      (ends_aligned place (objects_by f first []) rest g))
   form_aligned f a place (tree.do_while body e) left rest g =
       loop_aligned (looped f) place body _ _ rest (stmt_aligned (looped f) a body [] no_nodes tt) (test_aligned (looped f) (Some e) no_nodes tt) g
   form_aligned f a place (tree.switch e labels body) left rest g =
@@ -156,14 +159,6 @@ mutual
   form_aligned f a place (tree.update d op e) left rest g = update_aligned f place op (own_register f (tree.node_of d)) d e (first_temp f) rest g
   form_aligned f a place (tree.evaluate e) left rest g = dropped_aligned f e (first_temp f) rest g
   form_aligned f a place tree.empty left rest g = g
-
-  for_aligned : (f : Frame) → AreTypesAligned f.structs → (place : ℕ) (objects : List ℕ) (first : tree.Stmt) (e : Option tree.Expr) (last body : tree.Stmt) (left : List ℕ) (rest : Nodes) → AreAligned rest
-      → AreAligned (stmt_nodes f first left
-      (loop_nodes (looped f) place body (test_nodes (looped f) e (stmt_nodes (looped f) body [] no_nodes)) (stmt_nodes (looped f) last [] no_nodes) (ends place objects rest)))
-  for_aligned f a place objects first e last body left rest g =
-      stmt_aligned f a first left _
-      (loop_aligned (looped f) place body _ _ _ (test_aligned (looped f) e _ (stmt_aligned (looped f) a body [] no_nodes tt)) (stmt_aligned (looped f) a last [] no_nodes tt)
-      (ends_aligned place objects rest g))
 
   pub row_aligned : (f : Frame) → AreTypesAligned f.structs → (body : tree.Stmts) (left : List ℕ) (rest : Nodes) → AreAligned rest → AreAligned (row_nodes f body left rest)
   row_aligned f a tree.no_stmts left rest g = g
