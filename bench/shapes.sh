@@ -30,7 +30,7 @@ most=${2:-60}
 make() { # a size, an awk program that prints statements till so many bytes are printed, or so many of them: the text
   awk "
     function say(text) { left -= length(text) + 1; print text }
-    BEGIN { left = $1; size = $1; say(\"int f(int s, int *p) { char *q;\"); $2; print \"return s; }\"; print \"int main(void) { return 0; }\" }"
+    BEGIN { left = $1 - 400; size = $1; say(\"int f(int s, int *p) { char *q;\"); $2; print \"return s; }\"; print \"int main(void) { return 0; }\" }"
 }
 
 took() { # file: sets `seconds` and `peak`; fails where the text isn't taken or the run is cut off, and says so in `seconds`
