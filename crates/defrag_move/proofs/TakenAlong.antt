@@ -1,5 +1,5 @@
 -- Moves in rising order whose objects are found where they stand before all: what the bytes and the addresses come to is the storage after the plan.
-use Rattle.std.proofs.Common.{◌≡◌, ◌≢◌, ℕ, suc, ◌+◌, ◌^◌, ◌<◌, ◌≤◌, Bool, false, leb, List, [], ◌∷◌, length, Option, Some, None, IsSome, IsSomeAnd, set, refl, sym, ap, ◌∙◌, subst, arith}
+use Rattle.std.proofs.Common.{◌≡◌, ◌≢◌, ℕ, suc, ◌+◌, ◌<◌, ◌≤◌, Bool, false, leb, List, [], ◌∷◌, length, Option, Some, None, IsSome, IsSomeAnd, set, refl, sym, ap, ◌∙◌, subst, arith}
 use Rattle.std.specs.List.{All, AllByRecursion as Each, AllPairs, find}
 use Rattle.std.specs.Option.{option_map}
 use Rattle.std.proofs.lemmas.List.Elements.{All-from_recursion, recursion_from_All}

@@ -9,13 +9,7 @@ use move_plan::Move;
 
 /// Has the objects of moves take their bytes along, in the moves' order, and gives the ids that own them their
 /// new addresses.
-pub fn carry_all(
-    table: &mut Table,
-    bytes: &mut Flat,
-    start: u64,
-    moves: &[Move],
-    owners: &[u32],
-)
+pub fn carry_all(table: &mut Table, bytes: &mut Flat, start: u64, moves: &[Move], owners: &[u32])
     requires as_many { length owners.now ≡ length moves.now }
     requires can { CanCarry start moves.now owners.now table.old bytes.old }
     ensures table { table.new ≡ addresses_after start moves.now owners.now table.old }

@@ -9,7 +9,6 @@ use Rattle.sub_heaps.specs.Moving.{AreOwners, owner_at}
 use Rattle.sub_heaps.specs.inner.Order.{InOrder}
 use Rattle.sub_heaps.specs.inner.Walks.{left_over, owners_met, StartsBelow}
 use Rattle.sub_heaps.proofs.Carried.{AreThere, above_first, later_above, later_rising, there_behind}
-use Rattle.sub_heaps.proofs.Order.{start_behind}
 use Rattle.sub_heaps.proofs.Standing.{Each-weaker}
 
 pub owners_met-none : (ms : List Move) → owners_met ms [] ≡ []

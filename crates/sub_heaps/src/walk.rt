@@ -9,12 +9,7 @@ use crate::tree::{Tree, summary};
 
 /// Makes each next move at the object of the tree that it is of, where the objects stay in order, and gives
 /// the moves that are left. A list with room for it gets whose the moved objects are.
-pub fn walk<'a>(
-    tree: &mut Tree,
-    moves: &'a [Move],
-    size: u32,
-    owners: &mut Vec<u32>,
-) -> &'a [Move]
+pub fn walk<'a>(tree: &mut Tree, moves: &'a [Move], size: u32, owners: &mut Vec<u32>) -> &'a [Move]
     requires ordered { IsOrdered size tree.old }
     requires in_order { InOrder 0 (walked moves.now (objects_of tree.old)) }
     ensures left { result.now ≡ left_over moves.now (objects_of tree.old) }

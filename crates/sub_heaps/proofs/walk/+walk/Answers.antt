@@ -1,4 +1,4 @@
-use Rattle.std.proofs.Common.{◌≡◌, ℕ, ◌+◌, ◌≤◌, ◌∷◌, ◌++◌, [], ◌∙◌, ap, sym, subst, arith, length, vec_capacity}
+use Rattle.std.proofs.Common.{◌≡◌, ℕ, ◌∷◌, ◌++◌, [], ◌∙◌, ap, sym, subst, arith, vec_capacity}
 use Rattle.std.proofs.lemmas.Bool.{true≢false}
 use Rattle.sub_heaps.specs.declared.tree.Node.{Node}
 use Rattle.sub_heaps.specs.declared.tree.Tree.TheVariants.{Fork}
@@ -6,7 +6,7 @@ use Rattle.sub_heaps.specs.declared.summary.Summary.{Summary}
 use Rattle.sub_heaps.specs.inner.Order.{InOrder, last_end}
 use Rattle.sub_heaps.specs.inner.Summaries.{summary_of}
 use Rattle.sub_heaps.specs.inner.Trees.{objects_of, IsTree, IsOrdered}
-use Rattle.sub_heaps.specs.inner.Walks.{walked, left_over, owners_met, StartsBelow}
+use Rattle.sub_heaps.specs.inner.Walks.{walked, left_over, StartsBelow}
 use Rattle.sub_heaps.proofs.Halves.{left_ordered, right_ordered, left_smaller, right_smaller}
 use Rattle.sub_heaps.proofs.Walked.{walked-none, left_over-none, walked-fork, left_over-fork, walked_behind, walked_before, starts_below_end, walked-below, left_over-below}
 use Rattle.sub_heaps.proofs.Noted.{Notes-fork, Notes-none, owners_met-below, owners_met-none}

@@ -11,9 +11,9 @@ place-requires c = fewer _ c.self.invariant.0 c.in-Some.id c.in-Some.ensures.lea
 
 pub invariant_of-self-in-Some-place : goal.invariant_of-self-in-Some-place
 invariant_of-self-in-Some-place c = (
-    IsConsistent-placed _ c.self.invariant.0 c.in-Some.id c.in-Some-place.place c.from.result _ c.take.new.self c.set.new.self c.place.new.self c.in-Some.ensures.taken c.set.ensures.set c.from.ensures c.in-Some-place.ensures.placed c.in-Some.ensures.least.free c.in-Some-place.ensures.sound,
-    subst (λ (h : SubHeaps). h.most ≤ vec_capacity c.self.inside.owners) (sym c.in-Some-place.ensures.placed) c.self.invariant.1,
-  )
+  IsConsistent-placed _ c.self.invariant.0 c.in-Some.id c.in-Some-place.place c.from.result _ c.take.new.self c.set.new.self c.place.new.self c.in-Some.ensures.taken c.set.ensures.set c.from.ensures c.in-Some-place.ensures.placed c.in-Some.ensures.least.free c.in-Some-place.ensures.sound,
+  subst (λ (h : SubHeaps). h.most ≤ vec_capacity c.self.inside.owners) (sym c.in-Some-place.ensures.placed) c.self.invariant.1,
+)
 
 pub returns-in-Some-place-clause-after : goal.returns-in-Some-place-clause-after
 returns-in-Some-place-clause-after c =

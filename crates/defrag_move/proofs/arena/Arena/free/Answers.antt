@@ -17,10 +17,10 @@ give-requires c = rw c.id.ensures.value (subst (λ (s : Storage). IsInUse s.tabl
 
 pub invariant_of-self : goal.invariant_of-self
 invariant_of-self c = (
-    IsConsistent-freed _ c.self.invariant.0 (id_of c.args.word) c.in-Some.place (subst (λ (s : Storage). Some c.in-Some.place ≡ option_map (λ o. o.at) (object_of (id_of c.args.word) s.heaps.objects)) (sym c.self.view_is) c.in-Some.ensures.place)
-    c.id.result c.give.new.self c.free.new.self c.id.ensures.value c.give.ensures.given c.free.ensures.freed c.free.ensures.sound,
-    subst (λ (h : SubHeaps). h.most ≤ vec_capacity c.self.inside.owners) (sym c.free.ensures.freed) c.self.invariant.1,
-  )
+  IsConsistent-freed _ c.self.invariant.0 (id_of c.args.word) c.in-Some.place (subst (λ (s : Storage). Some c.in-Some.place ≡ option_map (λ o. o.at) (object_of (id_of c.args.word) s.heaps.objects)) (sym c.self.view_is) c.in-Some.ensures.place)
+      c.id.result c.give.new.self c.free.new.self c.id.ensures.value c.give.ensures.given c.free.ensures.freed c.free.ensures.sound,
+  subst (λ (h : SubHeaps). h.most ≤ vec_capacity c.self.inside.owners) (sym c.free.ensures.freed) c.self.invariant.1,
+)
 
 pub returns-clause-answer : goal.returns-clause-answer
 returns-clause-answer c = (λ ok. inr (c.in-Some.ensures.live.0 refl), λ live. refl)

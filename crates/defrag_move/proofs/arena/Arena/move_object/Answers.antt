@@ -24,11 +24,11 @@ unreachable-requires c =
 
 pub invariant_of-self : goal.invariant_of-self
 invariant_of-self c = (
-    IsConsistent-moved_storage _ c.args.self.now c.self.view_is c.self.invariant.0 c.args.next c.requires c.in-Some.object c.in-Some.ensures.next _ _ _
-    (ap (λ n. c.self.inside.start + n) c.from.ensures) (ap (λ n. c.self.inside.start + n) c.from-2.ensures) c.from-3.ensures
-    c.set.new.self c.shift.new.self c.copy.new.self c.set.ensures.set c.shift.ensures.moved c.in-Ok.ensures.copied,
-    subst (λ (h : SubHeaps). h.most ≤ vec_capacity c.self.inside.owners) (sym c.shift.ensures.moved) c.self.invariant.1,
-  )
+  IsConsistent-moved_storage _ c.args.self.now c.self.view_is c.self.invariant.0 c.args.next c.requires c.in-Some.object c.in-Some.ensures.next _ _ _
+      (ap (λ n. c.self.inside.start + n) c.from.ensures) (ap (λ n. c.self.inside.start + n) c.from-2.ensures) c.from-3.ensures
+      c.set.new.self c.shift.new.self c.copy.new.self c.set.ensures.set c.shift.ensures.moved c.in-Ok.ensures.copied,
+  subst (λ (h : SubHeaps). h.most ≤ vec_capacity c.self.inside.owners) (sym c.shift.ensures.moved) c.self.invariant.1,
+)
 
 pub returns-clause-moved : goal.returns-clause-moved
 returns-clause-moved c =

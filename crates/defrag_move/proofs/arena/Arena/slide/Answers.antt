@@ -1,4 +1,4 @@
-use Rattle.std.proofs.Common.{◌≡◌, ℕ, ◌≤◌, List, vec_capacity, sym, ap, ◌∙◌, subst, arith}
+use Rattle.std.proofs.Common.{ℕ, ◌≤◌, List, vec_capacity, sym, ap, ◌∙◌, subst, arith}
 use Rattle.move_plan.specs.Holding.{is_pinned}
 use Rattle.move_plan.specs.Sliding.{IsSlide}
 use Rattle.sub_heaps.specs.SubHeaps.{SubHeaps}
@@ -52,8 +52,8 @@ invariant_of-self c =
     let given = ap (λ (owners : List ℕ). addresses_after c.self.inside.start c.args.moves.now owners c.self.inside.table) c.deref.ensures.value in
     let led = leads_on (goal.at.invariant_of-self c).After-shift_all in (
       subst IsConsistent
-      (sym (slid_storage (is_pinned c.args.pins.now) c.args.moves.now old c.self.invariant.0 slide c.carry_all.new.table c.shift_all.new.self c.carry_all.new.bytes (c.carry_all.ensures.table ∙ given ∙ led.table_is) c.shift_all.ensures.moved (c.carry_all.ensures.bytes ∙ led.bytes_are)))
-      (slid_consistent (is_pinned c.args.pins.now) c.args.moves.now old c.self.invariant.0 slide),
+          (sym (slid_storage (is_pinned c.args.pins.now) c.args.moves.now old c.self.invariant.0 slide c.carry_all.new.table c.shift_all.new.self c.carry_all.new.bytes (c.carry_all.ensures.table ∙ given ∙ led.table_is) c.shift_all.ensures.moved (c.carry_all.ensures.bytes ∙ led.bytes_are)))
+          (slid_consistent (is_pinned c.args.pins.now) c.args.moves.now old c.self.invariant.0 slide),
       rw c.shift_all.ensures.capacity (subst (λ (h : SubHeaps). h.most ≤ vec_capacity c.self.inside.owners) (sym c.shift_all.ensures.moved) c.self.invariant.1),
     )
 
