@@ -1,4 +1,5 @@
 pub mod Bytes
+pub mod Leading
 pub mod Owners
 pub mod Counts
 pub mod Kept

@@ -1,24 +1,27 @@
 -- Moves in rising order whose objects are found where they stand before all: what the bytes and the addresses come to is the storage after the plan.
-use Rattle.std.proofs.Common.{◌≡◌, ◌≢◌, ℕ, suc, ◌+◌, ◌^◌, ◌<◌, ◌≤◌, Bool, false, leb, List, [], ◌∷◌, length, drop, slice_get, Option, Some, None, IsSome, IsSomeAnd, set, refl, sym, ap, ◌∙◌, subst, arith}
+use Rattle.std.proofs.Common.{◌≡◌, ◌≢◌, ℕ, suc, ◌+◌, ◌<◌, ◌≤◌, Bool, false, leb, List, [], ◌∷◌, length, Option, Some, None, IsSome, IsSomeAnd, set, refl, sym, ap, ◌∙◌, subst, arith}
 use Rattle.std.specs.List.{All, AllByRecursion as Each, AllPairs, find}
-use Rattle.std.proofs.lemmas.List.{drop_all}
+use Rattle.std.specs.Option.{option_map}
 use Rattle.std.proofs.lemmas.List.Elements.{All-from_recursion, recursion_from_All}
-use Rattle.std.proofs.lemmas.Option.{same_Some, none-some}
+use Rattle.std.proofs.lemmas.Option.{same_Some}
 use Rattle.handle_table.specs.Table.{IsInUse}
-use Rattle.flat_store.specs.Flat.{HasBytes, bytes_from, with_bytes}
+use Rattle.flat_store.specs.Flat.{bytes_from, with_bytes}
 use Rattle.sub_heaps.specs.declared.objects.Object.{Object}
 use Rattle.sub_heaps.specs.ByPlace.{object_at}
 use Rattle.sub_heaps.specs.SubHeaps.{SubHeaps, IsSound}
 use Rattle.sub_heaps.specs.declared.moves.Move.{Move}
-use Rattle.sub_heaps.specs.Moving.{AreLegal, IsAllowed, after_move, after_moves, carried}
+use Rattle.sub_heaps.specs.Moving.{AreLegal, IsAllowed, after_move, after_moves, carried, owner_at}
+use Rattle.sub_heaps.proofs.Fits.{objects_in_order}
+use Rattle.sub_heaps.proofs.Noted.{as_many_objects}
 use Rattle.sub_heaps.proofs.Standing.{Each-weaker}
 use Rattle.move_plan.specs.Sliding.{IsSlide}
 use Rattle.move_plan.proofs.Plans.{RiseFrom, IsSound-after_moves, rise_above, rise_from_AllPairs, rising_objects}
 use Rattle.move_plan.proofs.Turns.{Each-three, object_at-shifted}
 use Rattle.arena_meaning.specs.Arena.{IsConsistent, Storage}
 use Rattle.arena_meaning.specs.Moves.{after_plan}
-use Rattle.defrag_move.proofs.Kept.{IsConsistent-after_plan, heaps_after, keeps_all, mover, moving, starts}
-use Rattle.defrag_move.proofs.Turns.{IsConsistent-moved_storage, allowed, drop_got, find-placed, from_small, has_from, has_to, moved_storage, owner_in_use, to_small}
+use Rattle.defrag_move.specs.inner.Carrying.{HasBoth}
+use Rattle.defrag_move.proofs.Kept.{IsConsistent-after_plan, heaps_after, keeps_all, mover, moving}
+use Rattle.defrag_move.proofs.Turns.{IsConsistent-moved_storage, allowed, find-placed, from_small, has_from, has_to, moved_storage, owner_in_use, to_small}
 
 abbrev pub storage : ℕ → List (Option ℕ) → SubHeaps → List ℕ → Storage
 storage start table heaps bytes = record { start = start; table = table; heaps = heaps; bytes = bytes }
@@ -48,7 +51,7 @@ Carries-all pinned start table h bytes ms consistent legal rising = record {
   there = all_there h ms;
 }
 
-module _ (pinned : ℕ → Bool) (start : ℕ) (table : List (Option ℕ)) (before : SubHeaps) (bytes : List ℕ) (m : Move) (ms : List Move) (whole : Storage) (sound : IsSound before) (c : Carries pinned start table before bytes (m ∷ ms) whole) where
+module _ (pinned : ℕ → Bool) (start : ℕ) (table : List (Option ℕ)) (before : SubHeaps) (bytes : List ℕ) (m : Move) (ms : List Move) (whole : Storage) (c : Carries pinned start table before bytes (m ∷ ms) whole) where
   abbrev s : Storage
   s = storage start table c.so_far bytes
 
@@ -64,69 +67,48 @@ module _ (pinned : ℕ → Bool) (start : ℕ) (table : List (Option ℕ)) (befo
   found_now : object_at m.from c.so_far.objects ≡ Some it
   found_now = (moving s c.consistent (λ _. false) m may).1
 
-  find_now : find (λ x. leb m.from x.at) c.so_far.objects ≡ Some it
-  find_now = find-placed c.so_far.count c.so_far.size 0 m.from c.so_far.objects it c.consistent.heaps.stand found_now
+  find_now : Some it ≡ find (λ x. leb m.from x.at) c.so_far.objects
+  find_now = sym (find-placed c.so_far.count c.so_far.size 0 m.from c.so_far.objects it c.consistent.heaps.stand found_now)
 
-  find_before : find (λ x. leb m.from x.at) before.objects ≡ Some it
-  find_before = find-placed before.count before.size 0 m.from before.objects it sound.stand (sym c.there.0 ∙ found_now)
+  as_large : m.size ≡ it.size
+  as_large = sym (moving s c.consistent (λ _. false) m may).2
 
-  pub object_is_there : None ≡ find (λ x. leb m.from x.at) before.objects → ⊥
-  object_is_there none = none-some it (none ∙ find_before)
+  module _ (owner : ℕ) (owned : owner_at m.from before.objects ≡ Some owner) where
+    its_owner : owner ≡ it.owner
+    its_owner = same_Some owner it.owner (sym owned ∙ ap (λ (r : Option Object). option_map (λ o. o.owner) r) (sym c.there.0 ∙ found_now))
 
-  module _ (object : Object) (next : Some object ≡ find (λ x. leb m.from x.at) before.objects) where
-    is_it : object ≡ it
-    is_it = same_Some object it (next ∙ find_before)
+    pub carry_in_use : IsInUse table owner
+    carry_in_use = subst (IsInUse table) (sym its_owner) (owner_in_use s s refl c.consistent m next_allowed it find_now)
 
-    next_now : Some object ≡ find (λ x. leb m.from x.at) c.so_far.objects
-    next_now = ap (λ o. Some o) is_it ∙ sym find_now
+    pub carry_both : HasBoth start m bytes
+    carry_both = record {
+      small_from = from_small s s refl c.consistent m next_allowed it find_now;
+      small_to = to_small s s refl c.consistent m next_allowed it find_now;
+      from = has_from s s refl c.consistent m next_allowed it find_now (start + m.from) (start + m.to) m.size refl refl as_large;
+      to = has_to s s refl c.consistent m next_allowed it find_now (start + m.from) (start + m.to) m.size refl refl as_large;
+    }
 
-    pub object_starts : object.at ≡ m.from
-    object_starts = ap (λ (o : Object). o.at) is_it ∙ starts s c.consistent (λ _. false) m may
+    abbrev its_table : List (Option ℕ)
+    its_table = set table owner (Some (start + m.to))
 
-    source : start + object.at ≡ start + m.from
-    source = ap (λ n. start + n) object_starts
+    abbrev its_bytes : List ℕ
+    its_bytes = with_bytes bytes (start + m.to) (bytes_from bytes (start + m.from) m.size)
 
-    pub carry_in_use : IsInUse table object.owner
-    carry_in_use = owner_in_use s s refl c.consistent m next_allowed object next_now
+    table_is : its_table ≡ set table it.owner (Some (start + m.to))
+    table_is = ap (λ n. set table n (Some (start + m.to))) its_owner
 
-    pub carry_small_from : start + object.at < 2 ^ 64
-    carry_small_from = omega (arith, source, from_small s s refl c.consistent m next_allowed object next_now)
-
-    pub carry_small_to : start + m.to < 2 ^ 64
-    carry_small_to = to_small s s refl c.consistent m next_allowed object next_now
-
-    pub carry_from : HasBytes bytes (start + object.at) object.size
-    carry_from = has_from s s refl c.consistent m next_allowed object next_now (start + object.at) (start + m.to) object.size source refl refl
-
-    pub carry_to : HasBytes bytes (start + m.to) object.size
-    carry_to = has_to s s refl c.consistent m next_allowed object next_now (start + object.at) (start + m.to) object.size source refl refl
-
-    pub Carries-next : (t : List (Option ℕ)) (b : List ℕ) → t ≡ set table object.owner (Some (start + m.to)) → b ≡ with_bytes bytes (start + m.to) (bytes_from bytes (start + object.at) object.size) → Carries pinned start t before b ms whole
-    Carries-next t b table_is bytes_are = record {
+    pub Carries-next : Carries pinned start its_table before its_bytes ms whole
+    Carries-next = record {
       so_far = after_move m c.so_far;
-      consistent = IsConsistent-moved_storage s s refl c.consistent m next_allowed object next_now (start + object.at) (start + m.to) object.size source refl refl t (after_move m c.so_far) b table_is refl bytes_are;
+      consistent = IsConsistent-moved_storage s s refl c.consistent m next_allowed it find_now (start + m.from) (start + m.to) m.size refl refl as_large its_table (after_move m c.so_far) its_bytes table_is refl refl;
       legal = c.legal.2;
-      same = ap (after_plan ms) (moved_storage s s refl c.consistent m next_allowed object next_now (start + object.at) (start + m.to) object.size source refl refl t (after_move m c.so_far) b table_is refl bytes_are) ∙ c.same;
+      same = ap (after_plan ms) (moved_storage s s refl c.consistent m next_allowed it find_now (start + m.from) (start + m.to) m.size refl refl as_large its_table (after_move m c.so_far) its_bytes table_is refl refl) ∙ c.same;
       low = suc m.from;
       rises = c.rises.1;
       there = Each-three (λ n. object_at n.from c.so_far.objects ≡ object_at n.from before.objects) (λ n. suc m.from ≤ n.from) (λ n. n.from ≢ m.to) (λ n. object_at n.from (after_move m c.so_far).objects ≡ object_at n.from before.objects)
           (λ n same high apart. object_at-shifted n.from m.from m.to c.so_far.objects (omega (arith, high)) apart ∙ same)
           ms c.there.1 (rise_above (suc m.from) ms c.rises.1) (recursion_from_All (λ n. n.from ≢ m.to) ms c.legal.1);
     }
-
--- what one who reads the objects of the sub-heaps finds
-pub found_by_reader : (from : ℕ) {objects all : List Object} {found : Option Object} → objects ≡ all → found ≡ find (λ x. leb from x.at) objects → found ≡ find (λ x. leb from x.at) all
-found_by_reader from {objects} {all} {found} same is = is ∙ ap (λ (os : List Object). find (λ x. leb from x.at) os) same
-
--- by index
-pub Carries-got : (pinned : ℕ → Bool) (start : ℕ) (table : List (Option ℕ)) (before : SubHeaps) (bytes : List ℕ) (ms : List Move) (i : ℕ) (m : Move) (whole : Storage) → slice_get ms i ≡ Some m → Carries pinned start table before bytes (drop i ms) whole → Carries pinned start table before bytes (m ∷ drop (i + 1) ms) whole
-Carries-got pinned start table before bytes ms i m whole got c = subst (λ rest. Carries pinned start table before bytes rest whole) (drop_got ms i m got) c
-
--- after the last move
-pub Carries-end : (pinned : ℕ → Bool) (start : ℕ) (table : List (Option ℕ)) (before : SubHeaps) (bytes : List ℕ) (ms : List Move) (i : ℕ) (whole : Storage) → length ms ≤ i → Carries pinned start table before bytes (drop i ms) whole → (table ≡ whole.table) × (bytes ≡ whole.bytes)
-Carries-end pinned start table before bytes ms i whole past c =
-    let last = subst (λ rest. Carries pinned start table before bytes rest whole) (drop_all i ms past) c in
-    (ap (λ (s : Storage). s.table) last.same, ap (λ (s : Storage). s.bytes) last.same)
 
 -- ---- the sub-heaps after moves that keep the order
 
@@ -146,6 +128,10 @@ module _ (pinned : ℕ → Bool) (ms : List Move) (s : Storage) (consistent : Is
       All-from_recursion (λ m. IsSome (object_at m.from s.heaps.objects)) ms
       (Each-weaker (λ m. IsSomeAnd (object_at m.from s.heaps.objects) (λ o. o.size ≡ m.size)) (λ m. IsSome (object_at m.from s.heaps.objects)) (λ m there. is_there (object_at m.from s.heaps.objects) _ there) ms
       (rising_objects pinned 0 ms s.heaps (rise_from_AllPairs 0 ms (λ d has. omega arith) slide.rising) slide.legal))
+
+  -- there are no more moves than objects may live
+  pub few_moves : length ms ≤ s.heaps.most
+  few_moves = omega (arith, as_many_objects 0 ms s.heaps.objects (objects_in_order s.heaps consistent.heaps) slide.rising (recursion_from_All (λ m. IsSome (object_at m.from s.heaps.objects)) ms objects_there), consistent.heaps.few)
 
   pub carried_is : record s.heaps { objects = carried ms s.heaps.objects } ≡ after_moves ms s.heaps
   carried_is = sym (after_moves_is ms s.heaps ∙ ap (λ (xs : List Object). record s.heaps { objects = xs }) slide.same_order)

@@ -32,17 +32,20 @@ pub struct Arena {
     table: Table,
     heaps: Heaps,
     bytes: Flat,
+    // Whose the objects of a slide are. There is room for all objects.
+    owners: Vec<u32>,
 }
 
 // Clauses see where the sub-heaps begin, the address of each id in use, the objects in order of place, and the bytes.
 impl Model for Arena {
+    ghost use Rattle.std.specs.Prelude.{◌≤◌, vec_capacity};
     ghost use Rattle.arena_meaning.specs.Arena.{Storage, IsConsistent};
 
     ghost Value = { Storage };
 
     ghost view = { λ a. record { start = a.start; table = a.table; heaps = a.heaps; bytes = a.bytes } };
 
-    ghost invariant = { λ a. IsConsistent (record { start = a.start; table = a.table; heaps = a.heaps; bytes = a.bytes }) };
+    ghost invariant = { λ a. IsConsistent (record { start = a.start; table = a.table; heaps = a.heaps; bytes = a.bytes }) × (a.heaps.most ≤ vec_capacity a.owners) };
 }
 
 impl Arena {
@@ -67,11 +70,13 @@ impl Arena {
         )?;
         let table = Table::new(alloc, ids)?;
         let heaps = Heaps::new(alloc, count, size, ids)?;
+        let owners = Vec::with_capacity(alloc, ids as usize)?;
         Ok(Arena {
             start,
             table,
             heaps,
             bytes,
+            owners,
         })
     }
 
@@ -199,15 +204,14 @@ impl Arena {
         ensures after { self.new ≡ after_plan moves.now self.old }
         ensures consistent { IsConsistent self.new }
     {
+        self.heaps.shift_all(moves, &mut self.owners);
         carry_all(
             &mut self.table,
             &mut self.bytes,
-            &self.heaps,
             self.start,
             moves,
-            pins,
+            &self.owners,
         );
-        self.heaps.shift_all(moves);
     }
 
     /// Writes the `n` low bytes of `v` from `at` on, the least first ([`Flat::store`]).

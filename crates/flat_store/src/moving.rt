@@ -9,7 +9,7 @@ pub fn move_bytes(bytes: &mut [u8], to: usize, from: usize, n: usize)
     requires source { from + n ≤ length bytes.old }
     ensures { bytes.new ≡ take to bytes.old ++ take n (drop from bytes.old) ++ drop (to + n) bytes.old }
 {
-    // From one slice into another the compiler can take the C library's copy; within one it goes byte by byte.
+    // From one slice into another the compiler can take the C library's copy; within one it goes by a loop of its own.
     if to + n <= from {
         let (front, back) = bytes.split_at_mut(from);
         front[to..to + n].copy_from_slice(&back[..n]);

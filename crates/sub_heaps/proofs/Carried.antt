@@ -13,7 +13,7 @@ use Rattle.sub_heaps.proofs.Edits.{object_at-above, object_at-skip}
 use Rattle.sub_heaps.proofs.Order.{start_behind}
 use Rattle.sub_heaps.proofs.Standing.{Each-weaker, Each-both}
 
-abbrev AreThere : List Object → List Move → Type 0
+abbrev pub AreThere : List Object → List Move → Type 0
 AreThere xs ms = Each (λ m. IsSome (object_at m.from xs)) ms
 
 -- without a move all objects stay
@@ -36,12 +36,12 @@ destination-below (m ∷ ms) at above =
     rw other (destination-below ms at above.1)
 
 -- the objects of moves above the first one are among the others
-there_behind : (x : Object) (xs : List Object) (ms : List Move) → Each (λ m. x.at < m.from) ms → AreThere (x ∷ xs) ms → AreThere xs ms
+pub there_behind : (x : Object) (xs : List Object) (ms : List Move) → Each (λ m. x.at < m.from) ms → AreThere (x ∷ xs) ms → AreThere xs ms
 there_behind x xs ms above there =
     Each-both {X = Move} (λ m. x.at < m.from) (λ m. IsSome (object_at m.from (x ∷ xs))) (λ m. IsSome (object_at m.from xs)) (λ m high found. rw (object_at-skip m.from (x ∷ []) xs (high, tt)) at found) ms above there
 
 -- the object of a move that is of another than the first stands above that
-above_first : (low : ℕ) (m : Move) (x : Object) (xs : List Object) → InOrder low (x ∷ xs) → IsSome (object_at m.from (x ∷ xs)) → m.from ≢ x.at → x.at < m.from
+pub above_first : (low : ℕ) (m : Move) (x : Object) (xs : List Object) → InOrder low (x ∷ xs) → IsSome (object_at m.from (x ∷ xs)) → m.from ≢ x.at → x.at < m.from
 above_first low m x xs order found other = elim (cases_lt x.at m.from) [
   | inl above ↦ above
   | inr beneath ↦
@@ -51,10 +51,10 @@ above_first low m x xs order found other = elim (cases_lt x.at m.from) [
 ]
 
 module _ (m : Move) (ms : List Move) (rising : AllPairs (λ a b. a.from < b.from) (m ∷ ms)) where
-  later_above : Each (λ n. m.from < n.from) ms
+  pub later_above : Each (λ n. m.from < n.from) ms
   later_above = recursion_from_All (λ n. m.from < n.from) ms (λ j d within. rising 0 (suc j) d (omega arith) (omega arith))
 
-  later_rising : AllPairs (λ a b. a.from < b.from) ms
+  pub later_rising : AllPairs (λ a b. a.from < b.from) ms
   later_rising = λ i j d lt within. rising (suc i) (suc j) d (omega arith) (omega arith)
 
 pub walked-carried : (low : ℕ) (ms : List Move) (xs : List Object) → InOrder low xs → AllPairs (λ a b. a.from < b.from) ms → AreThere xs ms → walked ms xs ≡ carried ms xs

@@ -9,6 +9,7 @@ pub mod Gaps
 pub mod Halves
 pub mod Kept
 pub mod Knowing
+pub mod Noted
 pub mod Order
 pub mod Parts
 pub mod Sides

@@ -1,6 +1,7 @@
 -- Moves that are made one after the other: where the objects then stand, and which moves are legal. `pinned` tells the places of pinned objects.
-use Rattle.std.specs.Prelude.{◌≡◌, ℕ, ◌≢◌, ◌==◌, Bool, false, ⊤, List, [], ◌∷◌, if◌then◌else◌, IsSomeAnd, map}
+use Rattle.std.specs.Prelude.{◌≡◌, ℕ, ◌≢◌, ◌==◌, Bool, false, ⊤, List, [], ◌∷◌, if◌then◌else◌, Option, Some, IsSomeAnd, map}
 use Rattle.std.specs.List.{All}
+use Rattle.std.specs.Option.{option_map}
 use Rattle.sub_heaps.specs.declared.objects.Object.{Object}
 use Rattle.sub_heaps.specs.ByPlace.{object_at, without, shifted}
 use Rattle.sub_heaps.specs.SubHeaps.{SubHeaps, FitsAt}
@@ -34,3 +35,14 @@ destination (m ∷ ms) at = if m.from == at then m.to else destination ms at
 -- the objects, each at its destination, in the order in which they stood
 abbrev pub carried : List Move → List Object → List Object
 carried moves objects = map {A = Object} {B = Object} (λ o. record o { at = destination moves o.at }) objects
+
+-- whose the object is that starts at a place
+abbrev pub owner_at : ℕ → List Object → Option ℕ
+owner_at at objects = option_map (λ o. o.owner) (object_at at objects)
+
+-- these are the owners of the objects that the moves are of: one for each move, in the moves' order
+abbrev pub AreOwners : List Move → List Object → List ℕ → Type 0
+AreOwners [] objects [] = ⊤
+AreOwners [] objects (owner ∷ owners) = ⊥
+AreOwners (m ∷ ms) objects [] = ⊥
+AreOwners (m ∷ ms) objects (owner ∷ owners) = (owner_at m.from objects ≡ Some owner) × AreOwners ms objects owners

@@ -1,9 +1,9 @@
-ghost use Rattle.std.specs.Prelude.{◌≡◌, ℕ, ◌+◌, ◌%◌, ◌<◌, ◌≤◌, ◌↔◌, [], length, nat_le, Some, IsSome, IsNone, IfSome, IfNone, IsSomeAnd, IfOk};
+ghost use Rattle.std.specs.Prelude.{◌≡◌, ℕ, ◌+◌, ◌%◌, ◌<◌, ◌≤◌, ◌↔◌, [], ◌++◌, length, nat_le, Some, IsSome, IsNone, IfSome, IfNone, IsSomeAnd, IfOk};
 ghost use Rattle.std.specs.List.{All, AllPairs, find, sum_by};
 ghost use Rattle.sub_heaps.specs.ByPlace.{object_at, with_object, without, shifted};
 ghost use Rattle.std.specs.Vec.{vec_len, vec_capacity};
-ghost use Rattle.sub_heaps.specs.Moving.{carried};
-ghost use Rattle.sub_heaps.specs.inner.Walks.{walked};
+ghost use Rattle.sub_heaps.specs.Moving.{AreOwners, carried};
+ghost use Rattle.sub_heaps.specs.inner.Walks.{walked, owners_met};
 ghost use Rattle.sub_heaps.specs.SubHeaps.{IsShape, rounded, IsRounded, FitsAt, IsLowestFit, IsSound, IsAligned, extent_of};
 
 use crate::changes::{insert, remove};
@@ -117,23 +117,29 @@ impl Heaps {
         match self.next_object(to) {
             Some(next) if next.at == from => {
                 let size = next.size;
-                self.make_in_order(&[Move { from, to, size }]);
+                let mut unread = Vec::new(*self.spare.allocator());
+                self.make_in_order(&[Move { from, to, size }], &mut unread);
             }
             _ => self.put_again(from, to),
         }
     }
 
     /// Moves objects in one walk: each move is of an object that is there, in rising order, and the objects
-    /// keep their order.
-    pub fn shift_all(&mut self, moves: &[Move])
+    /// keep their order. The list, which has room for them, is from then on whose the objects are, in the order
+    /// of the moves.
+    pub fn shift_all(&mut self, moves: &[Move], owners: &mut Vec<u32>)
         requires rising { AllPairs (λ a b. a.from < b.from) moves.now }
         requires objects { All (λ m. IsSome (object_at m.from self.old.objects)) moves.now }
         requires stand { IsSound (record self.old { objects = carried moves.now self.old.objects }) }
+        requires room { length moves.now ≤ vec_capacity owners.old }
         ensures moved { self.new ≡ record self.old { objects = carried moves.now self.old.objects } }
+        ensures owners { AreOwners moves.now self.old.objects owners.new.items }
+        ensures capacity { vec_capacity owners.new ≡ vec_capacity owners.old }
         ensures sound { IsSound self.new }
     {
         let _order = &self.tree;
-        self.make_in_order(moves);
+        owners.clear();
+        self.make_in_order(moves, owners);
     }
 
     /// The lowest object that starts at or after `from`.
@@ -205,13 +211,16 @@ impl Heaps {
         self.tree = Tree::Fork(insert(tree, node, self.size));
     }
 
-    // Makes moves that keep the order, each next one at the object that it is of, in one walk.
-    fn make_in_order(&mut self, moves: &[Move])
+    // Makes moves that keep the order, each next one at the object that it is of, in one walk. A list with room
+    // for it gets whose the moved objects are.
+    fn make_in_order(&mut self, moves: &[Move], owners: &mut Vec<u32>)
         requires { IsSound (record self.old { objects = walked moves.now self.old.objects }) }
         ensures made { self.new ≡ record self.old { objects = walked moves.now self.old.objects } }
+        ensures owners { length owners.old.items + length moves.now ≤ vec_capacity owners.old → owners.new.items ≡ owners.old.items ++ owners_met moves.now self.old.objects }
+        ensures capacity { vec_capacity owners.new ≡ vec_capacity owners.old }
         ensures sound { IsSound self.new }
     {
-        walk(&mut self.tree, moves, self.size);
+        walk(&mut self.tree, moves, self.size, owners);
     }
 
     // Takes the object that starts at `from` out, and puts it in again at `to`.

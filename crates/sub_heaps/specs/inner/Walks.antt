@@ -19,3 +19,9 @@ left_over (m ∷ ms) (o ∷ os) = if m.from == o.at then left_over ms os else le
 abbrev pub StartsBelow : ℕ → List Move → Type 0
 StartsBelow end [] = ⊥
 StartsBelow end (m ∷ ms) = m.from < end
+
+-- whose the objects are that the walk moves, in its order
+abbrev pub owners_met : List Move → List Object → List ℕ
+owners_met [] objects = []
+owners_met (m ∷ ms) [] = []
+owners_met (m ∷ ms) (o ∷ os) = if m.from == o.at then o.owner ∷ owners_met ms os else owners_met (m ∷ ms) os

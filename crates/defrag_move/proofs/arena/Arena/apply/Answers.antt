@@ -25,18 +25,18 @@ pub returns-clause-heaps : goal.returns-clause-heaps
 returns-clause-heaps c =
     let last : length c.args.moves.now ≤ c.loop-next.next-index = omega (arith, c.loop-next-test.false) in
     ap (λ (s : Storage). s.heaps) (arrived c.args.moves.now c.loop-next.next-index c.loop-next.self _ last c.loop-next.invariant.same)
-    ∙ heaps_after (is_pinned c.args.pins.now) c.args.moves.now c.args.self.now (subst IsConsistent c.self.view_is c.self.invariant) c.requires
+    ∙ heaps_after (is_pinned c.args.pins.now) c.args.moves.now c.args.self.now (subst IsConsistent c.self.view_is c.self.invariant.0) c.requires
 
 pub returns-clause-kept : goal.returns-clause-kept
 returns-clause-kept c =
     let last : length c.args.moves.now ≤ c.loop-next.next-index = omega (arith, c.loop-next-test.false) in
     subst (KeepsObjects (is_pinned c.args.pins.now) c.args.moves.now c.args.self.now)
     (sym (arrived c.args.moves.now c.loop-next.next-index c.loop-next.self _ last c.loop-next.invariant.same))
-    (keeps_all (is_pinned c.args.pins.now) c.args.moves.now c.args.self.now (subst IsConsistent c.self.view_is c.self.invariant) c.requires)
+    (keeps_all (is_pinned c.args.pins.now) c.args.moves.now c.args.self.now (subst IsConsistent c.self.view_is c.self.invariant.0) c.requires)
 
 pub returns-clause-consistent : goal.returns-clause-consistent
 returns-clause-consistent c =
     let last : length c.args.moves.now ≤ c.loop-next.next-index = omega (arith, c.loop-next-test.false) in
     subst IsConsistent
     (sym (arrived c.args.moves.now c.loop-next.next-index c.loop-next.self _ last c.loop-next.invariant.same))
-    (IsConsistent-after_plan (is_pinned c.args.pins.now) c.args.moves.now c.args.self.now (subst IsConsistent c.self.view_is c.self.invariant) c.requires)
+    (IsConsistent-after_plan (is_pinned c.args.pins.now) c.args.moves.now c.args.self.now (subst IsConsistent c.self.view_is c.self.invariant.0) c.requires)

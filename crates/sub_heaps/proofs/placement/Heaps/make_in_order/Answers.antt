@@ -1,7 +1,7 @@
-use Rattle.std.proofs.Common.{sym, subst}
+use Rattle.std.proofs.Common.{◌≡◌, ◌+◌, ◌≤◌, ◌++◌, length, vec_capacity, sym, subst}
 use Rattle.sub_heaps.specs.SubHeaps.{SubHeaps, IsSound}
 use Rattle.sub_heaps.specs.inner.Trees.{objects_of}
-use Rattle.sub_heaps.specs.inner.Walks.{walked}
+use Rattle.sub_heaps.specs.inner.Walks.{walked, owners_met}
 use Rattle.sub_heaps.proofs.Fits.{objects_in_order}
 use Rattle.sub_heaps.proofs.Kept.{tree_ordered}
 use Rattle.sub_heaps.proofs.Shifting.{IsKept-walked}
@@ -19,3 +19,7 @@ pub invariant_of-self : goal.invariant_of-self
 invariant_of-self c =
     let sound = subst (λ (h : SubHeaps). IsSound (record h { objects = walked c.args.moves.now h.objects })) (sym c.self.view_is) c.requires in
     IsKept-walked c.self.inside.count c.self.inside.size c.self.inside.most c.self.inside.tree _ _ c.self.invariant c.args.moves.now c.walk.new.tree sound c.walk.ensures.tree c.walk.ensures.objects
+
+pub returns-clause-owners : goal.returns-clause-owners
+returns-clause-owners c =
+    subst (λ (h : SubHeaps). length c.args.owners.now.items + length c.args.moves.now ≤ vec_capacity c.args.owners.now → c.walk.new.owners.items ≡ c.args.owners.now.items ++ owners_met c.args.moves.now h.objects) c.self.view_is c.walk.ensures.owners
