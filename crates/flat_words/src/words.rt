@@ -1,8 +1,8 @@
 ghost use Rattle.std.specs.Prelude.{◌≡◌, ◌^◌, ◌<◌, ◌≤◌, pos, neg_ℤ, ◌+ℤ◌};
 ghost use Rattle.ak_words.specs.IntType.{least};
-ghost use Rattle.flat_words.specs.Words.{applied, number_in, number_word, word_in};
+ghost use Rattle.flat_words.specs.Words.{number_in, number_word, word_in};
 
-use ak_words::{IntType, Num, Op, wrap_apply};
+use ak_words::{IntType, Num};
 
 /// The word of a number.
 pub fn number_word(n: Num) -> u64
@@ -24,14 +24,6 @@ pub fn word_in(t: IntType, word: u64) -> u64
     ensures { result ≡ word_in t word }
 {
     above_least(t, word).wrapping_sub(half(t))
-}
-
-/// Carries out an operation of C on the numbers of a type that two words stand for ([`wrap_apply`]). The functions that are named
-/// for an operation do the same, faster.
-pub fn apply(op: Op, t: IntType, a: u64, b: u64) -> u64
-    ensures { result ≡ applied op t a b }
-{
-    number_word(wrap_apply(op, number_of_word(t, a), number_of_word(t, b)))
 }
 
 // How far the least number of the type is below 0.
