@@ -1,32 +1,53 @@
-ghost use Rattle.std.specs.Prelude.{◌≡◌, false};
+ghost use Rattle.std.specs.Prelude.{◌≡◌, IfSome, IfNone, pos, ◌<ℤ◌};
 ghost use Rattle.ak_words.specs.declared.operation.Op.TheVariants.{Div, Rem};
-ghost use Rattle.flat_words.specs.Words.{applied};
+ghost use Rattle.flat_words.specs.Words.{applied, number_in};
 
-use crate::words::{above_least, word_in};
-use ak_words::IntType;
+use crate::words::{above_least, by_numbers, half, word_in};
+use ak_words::{IntType, Op};
 
-/// The quotient of numbers of an unsigned type, and 0 where the second is 0.
-#[inline]
+/// The quotient, and 0 where the second is 0.
 pub fn divide(t: IntType, a: u64, b: u64) -> u64
-    requires { t.signed ≡ false }
     ensures { result ≡ applied Div t a b }
 {
-    let by = above_least(t, b);
-    if by == 0 {
+    let Some(x) = natural(t, a) else {
+        return by_numbers(Op::Div, t, a, b);
+    };
+    let Some(y) = natural(t, b) else {
+        return by_numbers(Op::Div, t, a, b);
+    };
+    if y == 0 {
         return word_in(t, 0);
     }
-    word_in(t, above_least(t, a) / by)
+    word_in(t, x / y)
 }
 
-/// The remainder of numbers of an unsigned type, and 0 where the second is 0.
-#[inline]
+/// The remainder, and 0 where the second is 0.
 pub fn remainder(t: IntType, a: u64, b: u64) -> u64
-    requires { t.signed ≡ false }
     ensures { result ≡ applied Rem t a b }
 {
-    let by = above_least(t, b);
-    if by == 0 {
+    let Some(x) = natural(t, a) else {
+        return by_numbers(Op::Rem, t, a, b);
+    };
+    let Some(y) = natural(t, b) else {
+        return by_numbers(Op::Rem, t, a, b);
+    };
+    if y == 0 {
         return word_in(t, 0);
     }
-    word_in(t, above_least(t, a) % by)
+    word_in(t, x % y)
+}
+
+// The number that a word stands for, unless it is negative.
+#[inline]
+fn natural(t: IntType, word: u64) -> Option<u64>
+    ensures some { IfSome result (λ n. (number_in t word).value ≡ pos n) }
+    ensures none { IfNone result ((number_in t word).value <ℤ pos 0) }
+{
+    let above = above_least(t, word);
+    let zero = half(t);
+    if above < zero {
+        None
+    } else {
+        Some(above - zero)
+    }
 }

@@ -1,8 +1,8 @@
 ghost use Rattle.std.specs.Prelude.{◌≡◌, ◌^◌, ◌<◌, ◌≤◌, pos, neg_ℤ, ◌+ℤ◌};
 ghost use Rattle.ak_words.specs.IntType.{least};
-ghost use Rattle.flat_words.specs.Words.{number_in, number_word, word_in};
+ghost use Rattle.flat_words.specs.Words.{applied, number_in, number_word, word_in};
 
-use ak_words::{IntType, Num};
+use ak_words::{IntType, Num, Op, wrap_apply};
 
 /// The word of a number.
 pub fn number_word(n: Num) -> u64
@@ -24,6 +24,13 @@ pub fn word_in(t: IntType, word: u64) -> u64
     ensures { result ≡ word_in t word }
 {
     above_least(t, word).wrapping_sub(half(t))
+}
+
+// An operation on the numbers that the words stand for.
+pub(crate) fn by_numbers(op: Op, t: IntType, a: u64, b: u64) -> u64
+    ensures { result ≡ applied op t a b }
+{
+    number_word(wrap_apply(op, number_of_word(t, a), number_of_word(t, b)))
 }
 
 // How far the least number of the type is below 0.
