@@ -1,8 +1,8 @@
-ghost use Rattle.std.specs.Prelude.{◌≡◌, IfSome, IfNone, pos, ◌<ℤ◌};
+ghost use Rattle.std.specs.Prelude.{◌≡◌};
 ghost use Rattle.ak_words.specs.declared.operation.Op.TheVariants.{Div, Rem};
-ghost use Rattle.flat_words.specs.Words.{applied, number_in};
+ghost use Rattle.flat_words.specs.Words.{applied};
 
-use crate::words::{above_least, by_numbers, half, word_in};
+use crate::words::{by_numbers, natural, word_in};
 use ak_words::{IntType, Op};
 
 /// The quotient, and 0 where the second is 0.
@@ -35,19 +35,4 @@ pub fn remainder(t: IntType, a: u64, b: u64) -> u64
         return word_in(t, 0);
     }
     word_in(t, x % y)
-}
-
-// The number that a word stands for, unless it is negative.
-#[inline]
-fn natural(t: IntType, word: u64) -> Option<u64>
-    ensures some { IfSome result (λ n. (number_in t word).value ≡ pos n) }
-    ensures none { IfNone result ((number_in t word).value <ℤ pos 0) }
-{
-    let above = above_least(t, word);
-    let zero = half(t);
-    if above < zero {
-        None
-    } else {
-        Some(above - zero)
-    }
 }

@@ -16,5 +16,5 @@ pub use arithmetic::{add, mul, sub};
 pub use bitwise::{and_bits, or_bits, xor_bits};
 pub use comparing::{at_most, below, equal, unequal};
 pub use dividing::{divide, remainder};
-pub use shifting::shift_left;
+pub use shifting::{shift_left, shift_right};
 pub use words::{number_of_word, number_word, word_in};
