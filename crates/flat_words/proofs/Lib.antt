@@ -4,3 +4,4 @@ pub mod Sums
 mod Bits
 mod Tests
 mod Shifts
+mod Quotients

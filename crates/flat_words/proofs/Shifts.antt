@@ -1,13 +1,14 @@
--- Left shifts of the numbers that words stand for.
-use Rattle.std.proofs.Common.{refl, ◌≡◌, ℕ, ◌+◌, ◌*◌, ◌%◌, ◌^◌, ◌<◌, ◌⊎◌, inl, inr, sym, ◌∙◌, ap, arith, ℤ, pos, negsuc, ◌+ℤ◌, ◌*ℤ◌}
+-- Shifts of the numbers that words stand for.
+use Rattle.std.proofs.Common.{refl, ◌≡◌, ℕ, ◌+◌, ◌*◌, ◌/◌, ◌%◌, ◌^◌, ◌<◌, ◌⊎◌, inl, inr, sym, ◌∙◌, ap, arith, ℤ, pos, negsuc, ◌+ℤ◌, ◌*ℤ◌}
 use Rattle.std.proofs.Math.Nat.{add-mul-mod_self_right, mod-eq_of_lt, mod-lt}
 use Rattle.std.proofs.lemmas.Bool.Decides.{nat_tests}
 use Rattle.std.proofs.lemmas.Int.{ints}
 use Rattle.std.specs.Prelude.{Bool, true, false, not, ◌||◌, ◌&&◌, IsTrue, int_le, int_lt, unsigned_abs}
+use Rattle.std.specs.Int.{int_shr}
 use Rattle.std.specs.Result.{result_unwrap_or}
 use Rattle.ak_words.specs.declared.int_type.IntType.{IntType}
 use Rattle.ak_words.specs.declared.number.Num.{Num}
-use Rattle.ak_words.specs.declared.operation.Op.TheVariants.{Shl}
+use Rattle.ak_words.specs.declared.operation.Op.TheVariants.{Shl, Shr}
 use Rattle.ak_words.specs.declared.rule.Rule.TheVariants.{C3}
 use Rattle.ak_words.specs.Num.{num}
 use Rattle.ak_words.specs.Op.{exact_result, rule_of, replacement, wrapped_result, outcome, rule_if, overflows, is_count}
@@ -85,3 +86,21 @@ left_is t a b k e =
     let x = apart t a in
     words_same t (wrapped_value t (pos a) *ℤ pos (2 ^ k)) (a * 2 ^ k) (x.0 * 2 ^ k) (x.1 * 2 ^ k) (scaled (wrapped_value t (pos a)) a (2 ^ t.bits) x.0 x.1 (2 ^ k) x.2)
     ∙ sym (ap (λ (n : Num). residue (2 ^ 64) n.value) (wrapped_left (number_in t a) (number_in t b)) ∙ ap (λ j. residue (2 ^ 64) (wrapped_value t (wrapped_value t (pos a) *ℤ pos (2 ^ j)))) (sym e))
+
+-- ---- and to the right
+
+wrapped_right : (a b : Num) → wrapped_result Shr a b ≡ num a.ty (int_shr a.value (residue a.ty.bits b.value))
+unfolding exact_result rule_of replacement
+wrapped_right a b =
+    let t = a.ty in
+    let some : 0 < t.bits = omega (arith, (width_bounds t.bits t.known_width).0) in
+    either (not (is_count t b.value)) (num t (int_shr a.value (unsigned_abs b.value))) (num t (int_shr a.value (residue t.bits b.value)))
+    (λ e. ap (λ k. num t (int_shr a.value k)) (count_is t.bits b.value some (negated (is_count t b.value) e)))
+  where
+    negated : (p : Bool) → not p ≡ false → p ≡ true
+    negated true e = refl
+    negated false e = absurd (cc)
+
+pub right_is : (t : IntType) (a b x k : ℕ) → wrapped_value t (pos a) ≡ pos x → k ≡ residue t.bits (wrapped_value t (pos b)) → word_in t (x / 2 ^ k) ≡ applied Shr t a b
+right_is t a b x k one e =
+    sym (ap (λ (n : Num). residue (2 ^ 64) n.value) (wrapped_right (number_in t a) (number_in t b)) ∙ (λ i. residue (2 ^ 64) (wrapped_value t (int_shr (one i) (sym e i)))))

@@ -3,14 +3,18 @@
 //! Stands on ak_words.
 #![tactic(auto)]
 
+mod applying;
 mod arithmetic;
 mod bitwise;
 mod comparing;
+mod dividing;
 mod shifting;
 mod words;
 
+pub use applying::apply;
 pub use arithmetic::{add, mul, sub};
 pub use bitwise::{and_bits, or_bits, xor_bits};
 pub use comparing::{at_most, below, equal, unequal};
-pub use shifting::shift_left;
-pub use words::{apply, number_of_word, number_word, word_in};
+pub use dividing::{divide, remainder};
+pub use shifting::{shift_left, shift_right};
+pub use words::{number_of_word, number_word, word_in};

@@ -1,4 +1,4 @@
-ghost use Rattle.std.specs.Prelude.{◌≡◌, ◌^◌, ◌<◌, ◌≤◌, pos, neg_ℤ, ◌+ℤ◌};
+ghost use Rattle.std.specs.Prelude.{◌≡◌, ◌^◌, ◌<◌, ◌≤◌, IfSome, IfNone, pos, neg_ℤ, ◌+ℤ◌, ◌<ℤ◌};
 ghost use Rattle.ak_words.specs.IntType.{least};
 ghost use Rattle.flat_words.specs.Words.{applied, number_in, number_word, word_in};
 
@@ -26,9 +26,8 @@ pub fn word_in(t: IntType, word: u64) -> u64
     above_least(t, word).wrapping_sub(half(t))
 }
 
-/// Carries out an operation of C on the numbers of a type that two words stand for ([`wrap_apply`]). The functions that are named
-/// for an operation do the same, faster.
-pub fn apply(op: Op, t: IntType, a: u64, b: u64) -> u64
+// An operation on the numbers that the words stand for.
+pub(crate) fn by_numbers(op: Op, t: IntType, a: u64, b: u64) -> u64
     ensures { result ≡ applied op t a b }
 {
     number_word(wrap_apply(op, number_of_word(t, a), number_of_word(t, b)))
@@ -51,4 +50,19 @@ pub(crate) fn above_least(t: IntType, word: u64) -> u64
 {
     let mask = u64::MAX >> (64 - t.bits);
     word.wrapping_add(half(t)) & mask
+}
+
+// The number that a word stands for, unless it is negative.
+#[inline]
+pub(crate) fn natural(t: IntType, word: u64) -> Option<u64>
+    ensures some { IfSome result (λ n. (number_in t word).value ≡ pos n) }
+    ensures none { IfNone result ((number_in t word).value <ℤ pos 0) }
+{
+    let above = above_least(t, word);
+    let zero = half(t);
+    if above < zero {
+        None
+    } else {
+        Some(above - zero)
+    }
 }
