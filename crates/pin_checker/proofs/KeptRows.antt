@@ -1,5 +1,5 @@
 -- Rows that are gone through from behind for all pairs at once.
-use Rattle.std.proofs.Common.{◌≡◌, ◌≢◌, ◌<◌, ◌+◌, ℕ, List, [], ◌∷◌, length, drop, get_or, Some, Result, IfOk, Bool, true, false, ◌==◌, ◌||◌, ◌&&◌, inl, inr, refl, sym, ap, subst, ◌∙◌}
+use Rattle.std.proofs.Common.{◌≡◌, ◌≢◌, ◌<◌, ◌≤◌, ◌+◌, ℕ, List, [], ◌∷◌, ◌++◌, length, drop, get_or, Some, Result, IfOk, Bool, true, false, ◌==◌, ◌||◌, ◌&&◌, inl, inr, refl, sym, ap, subst, ◌∙◌, arith}
 use Rattle.std.specs.Prelude.{not}
 use Rattle.std.specs.List.{list_any}
 use Rattle.std.specs.Global.{Vec}
@@ -9,19 +9,22 @@ use Rattle.std.proofs.lemmas.Result.{IfOk-weaker}
 use Rattle.struct_ir.specs.declared.code.Node.{Node as CodeNode}
 use Rattle.struct_ir.specs.declared.code.NodeKind.{NodeKind}
 use Rattle.struct_ir.specs.declared.code.NodeKind.TheViews as views
-use Rattle.struct_ir.specs.Nodes.{Act, set, call, step, look, safepoint, begin_object, end_object, Node, plain, if_, loop, break_, next_, ret, Nodes, no_nodes, more_nodes, list_of}
+use Rattle.struct_ir.specs.Nodes.{Act, set, call, step, look, safepoint, begin_object, end_object, Node, plain, if_, loop, break_, next_, ret, Nodes, more_nodes, list_of}
 use Rattle.struct_ir.specs.Pins.{lacks, lacks_if}
 use Rattle.struct_ir.specs.Views.{kind_view, node_view, nodes_view}
 use Rattle.struct_ir.proofs.Views.{if_is, loop_is}
 use Rattle.pin_flow.specs.Slots.{slot_if}
 use Rattle.pin_flow.specs.Looks.{looks_into}
 use Rattle.pin_flow.specs.Views.{act_is, looks_slot, lacks_at}
-use Rattle.pin_flow.specs.Live.{uses, Live, lives, live, live_node, head_live, latch_live, body_lives, latch_lives}
+use Rattle.pin_flow.specs.Live.{uses, Live, lives, live, head_live}
 use Rattle.pin_flow.proofs.FlowRows.{is_plain}
 use Rattle.pin_flow.proofs.Strip.{by_bool}
+use Rattle.mark_sets.specs.Added.{loops, loops_in}
+use Rattle.mark_sets.specs.Heads.{AreHeads, AreHeadsIn}
 use Rattle.mark_sets.specs.Words.{has}
 use Rattle.mark_sets.specs.Homes.{Tells, lives_in, node_keeps, keeps as holds}
 use Rattle.mark_sets.specs.declared.from_behind.Walked.{Walked}
+use Rattle.mark_sets.specs.declared.heads.Later.{Later}
 use Rattle.mark_sets.proofs.HomeSlots.{has_nothing}
 use Rattle.mark_sets.proofs.Told.{lives_told, in_latch, in_body}
 use Rattle.pin_checker.specs.declared.pair.Pair.{Pair}
@@ -102,6 +105,30 @@ kept_start bs on out end b i e = tt
 pub kept_more : (bs on used out end : List ℕ) (rest : Nodes) → Tells bs used (λ i b. live i b rest (lives_in on out end i)) → (n : Node) → AreKeptIn bs n used out end → AreKept bs rest on out end → AreKept bs (more_nodes n rest) on out end
 unfolding Kept
 kept_more bs on used out end rest told n k l b i e = (subst (λ (m : Live). KeptIn i b n m) (lives_told bs on used out end rest told b i e) (k b i e), l b i e)
+
+-- ---- heads of loops
+
+-- what is behind is numbered as the whole is
+heads_behind : (bs : List ℕ) (s : List Later) (at : ℕ) (front rest : List CodeNode) → AreHeads bs s at (nodes_view (front ++ rest)) → AreHeads bs s at (nodes_view rest)
+heads_behind bs s at [] rest a = a
+heads_behind bs s at (y ∷ front) rest a = heads_behind bs s at front rest a.0
+
+loops_behind : (front rest : List CodeNode) → loops (nodes_view rest) ≤ loops (nodes_view (front ++ rest))
+loops_behind [] rest = omega arith
+loops_behind (y ∷ front) rest = let h = loops_behind front rest in omega (arith, h)
+
+-- a node, where the heads of what is behind it are passed
+module _ (bs : List ℕ) (s : List Later) (at next : ℕ) (all front rest : List CodeNode) (x : CodeNode) (cut : all ≡ front ++ (x ∷ rest)) (is : next ≡ at + loops (nodes_view rest)) where
+  pub within_back : at + loops (nodes_view all) ≤ length s → next + loops_in (node_view x) ≤ length s
+  within_back w =
+      let f = loops_behind front (x ∷ rest) in
+      let e = ap (λ l. loops (nodes_view l)) cut in
+      omega (arith, w, f, e, is)
+
+  pub heads_back : AreHeads bs s at (nodes_view all) → AreHeadsIn bs s next (node_view x)
+  heads_back a =
+      let b : AreHeads bs s at (nodes_view (x ∷ rest)) = heads_behind bs s at front (x ∷ rest) (subst (λ l. AreHeads bs s at (nodes_view l)) cut a) in
+      subst (λ n. AreHeadsIn bs s n (node_view x)) (sym is) b.1
 
 -- ---- nodes that hold others
 

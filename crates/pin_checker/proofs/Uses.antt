@@ -1,5 +1,5 @@
 -- Where each act keeps what is used later, each slot is pinned where it is used.
-use Rattle.std.proofs.Common.{◌≡◌, ℕ, List, [], ◌∷◌, Option, Some, None, Bool, true, false, ◌||◌, ◌&&◌, if◌then◌else◌, refl, ap, ◌∙◌}
+use Rattle.std.proofs.Common.{◌≡◌, ℕ, [], ◌∷◌, Option, None, Bool, true, false, ◌||◌, ◌&&◌, if◌then◌else◌, refl, ap, ◌∙◌}
 use Rattle.std.specs.Prelude.{not}
 use Rattle.std.proofs.lemmas.Bool.{or_left, or_right, and_from, eq-eqb}
 use Rattle.struct_ir.specs.Nodes.{Act, Node, plain, if_, loop, break_, next_, ret, Nodes, no_nodes, more_nodes, list_of}
@@ -11,8 +11,8 @@ use Rattle.pin_flow.specs.Live.{uses, Live, lives, live_act, live, live_node, he
 use Rattle.pin_checker.specs.declared.fault.Fault.{Fault}
 use Rattle.pin_checker.specs.declared.fault.Why.TheVariants.{NotPinned}
 use Rattle.pin_checker.specs.declared.pair.Pair.{Pair}
-use Rattle.pin_checker.specs.inner.Reports.{is_bad, is_good, noted, for_lacking, report, report_node, report_all, report_pair, report_pairs, has_pair, is_pair}
-use Rattle.pin_checker.specs.inner.Uses.{keeps, KeepsAct, Kept, KeptIn, IsKept, KeptPairsAreClean}
+use Rattle.pin_checker.specs.inner.Reports.{is_bad, is_good, noted, for_lacking, report, report_node, report_pair, report_pairs, is_pair}
+use Rattle.pin_checker.specs.inner.Uses.{keeps, Kept, KeptIn, IsKept, KeptPairsAreClean}
 use Rattle.pin_checker.proofs.Stronger.{pair_is}
 
 -- nothing is used later where some path says no

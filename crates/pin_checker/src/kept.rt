@@ -1,6 +1,6 @@
-//! Whether each act keeps the pairs of which an access comes later: one walk from behind for all pairs.
+//! Whether each act keeps the pairs of which an access comes later: two walks from behind for all pairs.
 
-ghost use Rattle.std.specs.Prelude.{◌≡◌, ◌||◌, ◌&&◌, ℕ, Some, true, false, not, IfOk};
+ghost use Rattle.std.specs.Prelude.{◌≡◌, ◌≤◌, ◌+◌, ◌||◌, ◌&&◌, ℕ, suc, length, Some, true, false, not, IfOk, OnOk};
 ghost use Rattle.struct_ir.specs.Nodes.{own_list};
 ghost use Rattle.struct_ir.specs.Pins.{lacks, lacks_if};
 ghost use Rattle.struct_ir.specs.Views.{step_view, node_view, nodes_view};
@@ -8,6 +8,8 @@ ghost use Rattle.pin_flow.specs.Live.{uses, live, live_node, head_live};
 ghost use Rattle.pin_flow.specs.Slots.{slot_if};
 ghost use Rattle.pin_flow.specs.Views.{act_is, looks_slot, lacks_at};
 ghost use Rattle.mark_sets.specs.Words.{has};
+ghost use Rattle.mark_sets.specs.Added.{loops, loops_in};
+ghost use Rattle.mark_sets.specs.Heads.{AreHeads, AreHeadsIn, AreHeadsWithin};
 ghost use Rattle.mark_sets.specs.Homes.{AreHomes, Tells, lives_in};
 ghost use Rattle.pin_checker.specs.declared.pair.Pair.{Pair as CodePair};
 ghost use Rattle.pin_checker.specs.inner.Reports.{has_pair};
@@ -16,8 +18,9 @@ ghost use Rattle.pin_checker.specs.inner.Uses.{NodeKeeps, AreKept, AreKeptIn, Ar
 use crate::pair::Pair;
 use ak_words::NoMemory;
 use mark_sets::from_behind::{Walked, both, both_walked, led_to};
+use mark_sets::heads::{Outline, next_head, outline_of};
 use mark_sets::homes::{Homes, homes_of, keeps};
-use mark_sets::used::{head_used, used_act};
+use mark_sets::used::used_act;
 use mark_sets::words::{is_empty, remove};
 use pin_flow::slots::bases_of;
 use std::alloc::Global;
@@ -80,24 +83,29 @@ fn kept_act(alloc: Global, homes: &Homes, n: &Node, on: Vec<u64>) -> Result<Walk
 
 // What is used at or behind the start of the row, from what is used behind it, behind the loop around
 // it, and at the end of the body or step around it; and whether each act keeps what is used behind it.
+// The heads from the next one on are those of the row's loops.
 #[cycle(keeps)]
 fn kept_row(
     alloc: Global,
-    homes: &Homes,
+    outline: &Outline,
+    next: &mut usize,
     rows: &[Node],
     on: Vec<u64>,
     out: &[u64],
     end: &[u64],
 ) -> Result<Walked, NoMemory>
-    requires { AreHomes homes.now }
-    ensures used { IfOk result (λ w. Tells homes.now.bases.items w.on.items (λ i b. live i b (nodes_view rows.now) (lives_in on.items out.now end.now i))) }
-    ensures kept { IfOk result (λ w. w.kept ≡ true → AreKept homes.now.bases.items (nodes_view rows.now) on.items out.now end.now) }
+    requires homes { AreHomes outline.now.homes }
+    requires within { next.old + loops (nodes_view rows.now) ≤ length outline.now.heads.items }
+    requires heads { AreHeads outline.now.homes.bases.items outline.now.heads.items next.old (nodes_view rows.now) }
+    ensures next { OnOk result (next.new ≡ next.old + loops (nodes_view rows.now)) }
+    ensures used { IfOk result (λ w. Tells outline.now.homes.bases.items w.on.items (λ i b. live i b (nodes_view rows.now) (lives_in on.items out.now end.now i))) }
+    ensures kept { IfOk result (λ w. w.kept ≡ true → AreKept outline.now.homes.bases.items (nodes_view rows.now) on.items out.now end.now) }
 {
     let mut set = on;
     let mut kept = true;
     let mut left = rows;
     'row: while let [front @ .., n] = left {
-        let node = kept_node(alloc, homes, n, set, out, end)?;
+        let node = kept_node(alloc, outline, next, n, set, out, end)?;
         kept = both(node.kept, kept);
         set = node.on;
         left = front;
@@ -108,29 +116,33 @@ fn kept_row(
 #[cycle(keeps)]
 fn kept_node(
     alloc: Global,
-    homes: &Homes,
+    outline: &Outline,
+    next: &mut usize,
     n: &Node,
     on: Vec<u64>,
     out: &[u64],
     end: &[u64],
 ) -> Result<Walked, NoMemory>
-    requires { AreHomes homes.now }
-    ensures used { IfOk result (λ w. Tells homes.now.bases.items w.on.items (λ i b. live_node i b (node_view n.now) (lives_in on.items out.now end.now i))) }
-    ensures kept { IfOk result (λ w. w.kept ≡ true → AreKeptIn homes.now.bases.items (node_view n.now) on.items out.now end.now) }
+    requires homes { AreHomes outline.now.homes }
+    requires within { next.old + loops_in (node_view n.now) ≤ length outline.now.heads.items }
+    requires heads { AreHeadsIn outline.now.homes.bases.items outline.now.heads.items next.old (node_view n.now) }
+    ensures next { OnOk result (next.new ≡ next.old + loops_in (node_view n.now)) }
+    ensures used { IfOk result (λ w. Tells outline.now.homes.bases.items w.on.items (λ i b. live_node i b (node_view n.now) (lives_in on.items out.now end.now i))) }
+    ensures kept { IfOk result (λ w. w.kept ≡ true → AreKeptIn outline.now.homes.bases.items (node_view n.now) on.items out.now end.now) }
 {
     match &n.kind {
         NodeKind::If(_, one, other) => {
             let start = on.to_vec(alloc)?;
-            let first = kept_row(alloc, homes, one, start, out, end)?;
-            let second = kept_row(alloc, homes, other, on, out, end)?;
+            let first = kept_row(alloc, outline, next, one, start, out, end)?;
+            let second = kept_row(alloc, outline, next, other, on, out, end)?;
             Ok(both_walked(first, second))
         }
-        NodeKind::Loop(body, step) => kept_loop(alloc, homes, body, step, &on),
+        NodeKind::Loop(body, step) => kept_loop(alloc, outline, next, body, step, &on),
         NodeKind::Set(..) | NodeKind::Call(_) | NodeKind::Step(_) | NodeKind::Look(..) => {
-            kept_act(alloc, homes, n, on)
+            kept_act(alloc, &outline.homes, n, on)
         }
         NodeKind::Safepoint(_) | NodeKind::Begin(_) | NodeKind::End(_) => {
-            kept_act(alloc, homes, n, on)
+            kept_act(alloc, &outline.homes, n, on)
         }
         NodeKind::Break => led_to(alloc, out),
         NodeKind::Next => led_to(alloc, end),
@@ -144,20 +156,24 @@ fn kept_node(
 #[cycle(keeps)]
 fn kept_loop(
     alloc: Global,
-    homes: &Homes,
+    outline: &Outline,
+    next: &mut usize,
     body: &[Node],
     step: &[Node],
     on: &[u64],
 ) -> Result<Walked, NoMemory>
-    requires { AreHomes homes.now }
-    ensures used { IfOk result (λ w. Tells homes.now.bases.items w.on.items (λ i b. head_live i b (nodes_view body.now) (nodes_view step.now) (has on.now i))) }
-    ensures kept { IfOk result (λ w. w.kept ≡ true → AreKeptLoop homes.now.bases.items (nodes_view body.now) (nodes_view step.now) on.now) }
+    requires homes { AreHomes outline.now.homes }
+    requires within { next.old + suc (loops (nodes_view body.now) + loops (nodes_view step.now)) ≤ length outline.now.heads.items }
+    requires heads { AreHeadsWithin outline.now.homes.bases.items outline.now.heads.items next.old (nodes_view body.now) (nodes_view step.now) }
+    ensures next { OnOk result (next.new ≡ next.old + suc (loops (nodes_view body.now) + loops (nodes_view step.now))) }
+    ensures used { IfOk result (λ w. Tells outline.now.homes.bases.items w.on.items (λ i b. head_live i b (nodes_view body.now) (nodes_view step.now) (has on.now i))) }
+    ensures kept { IfOk result (λ w. w.kept ≡ true → AreKeptLoop outline.now.homes.bases.items (nodes_view body.now) (nodes_view step.now) on.now) }
 {
-    let head = head_used(alloc, homes, body, step, on)?;
+    let head = next_head(alloc, outline, next, on)?;
     let top = head.to_vec(alloc)?;
-    let latch = kept_row(alloc, homes, step, top, on, &head)?;
+    let latch = kept_row(alloc, outline, next, step, top, on, &head)?;
     let last = latch.on.to_vec(alloc)?;
-    let first = kept_row(alloc, homes, body, last, on, &latch.on)?;
+    let first = kept_row(alloc, outline, next, body, last, on, &latch.on)?;
     Ok(Walked {
         on: head,
         kept: both(first.kept, latch.kept),
@@ -187,7 +203,7 @@ fn have_homes(homes: &Homes, pairs: &[Pair]) -> bool
     true
 }
 
-/// Whether each pair is kept, which one walk tells. A pair that isn't kept may still be at no fault,
+/// Whether each pair is kept, which two walks tell. A pair that isn't kept may still be at no fault,
 /// where control doesn't come.
 ///
 /// # Errors
@@ -200,10 +216,20 @@ pub fn are_kept(alloc: Global, f: &IrFunc, pairs: &[Pair]) -> Result<bool, NoMem
     let _temps = f.temps;
     let bases = bases_of(alloc, f)?;
     let homes = homes_of(alloc, bases)?;
+    let outline = outline_of(alloc, homes, &f.nodes)?;
     let none = Vec::new(alloc);
-    let walked = kept_row(alloc, &homes, &f.nodes, Vec::new(alloc), &none, &none)?;
+    let mut next = 0;
+    let walked = kept_row(
+        alloc,
+        &outline,
+        &mut next,
+        &f.nodes,
+        Vec::new(alloc),
+        &none,
+        &none,
+    )?;
     if walked.kept && is_empty(&walked.on) {
-        Ok(have_homes(&homes, pairs))
+        Ok(have_homes(&outline.homes, pairs))
     } else {
         Ok(false)
     }
