@@ -105,29 +105,39 @@ pub record ServeStays (y : Image Spot) (p : Ir) (given : List ℕ) (u : runs.Sta
 
 -- ---- an entry of a turn
 
--- what the journal leads to, where the entry's thread is out with the entry's worker; where that goes to alone, in as many turns as the
--- entry tells; the machine's event there, if it has one, which does what the entry does and whose turn is the entry's; and what is claimed
--- of its step, behind the turns of the journal so far and the thread's own
-pub record TurnOf (code : LinearCode) (s : Settings) (log : List Entry) (e : Entry) (Claim : List Pick → Image Spot → events.MachineState Spot → Choice → Stage Spot → Type 0) : Type 0 where
+-- what the journal leads to, where the entry's thread is out with the entry's worker
+pub record IsOut (code : LinearCode) (s : Settings) (log : List Entry) (e : Entry) : Type 0 where
   pub here : RunState Shared Context
   pub leads : replay code s log ≡ Some here
   pub context : Context
   pub count : ℕ
   pub mood : Mood
-  pub is_out : place_at here.places e.thread ≡ out e.worker context count mood
+  pub at : place_at here.places e.thread ≡ out e.worker context count mood
+
+-- where a thread goes to alone, in as many turns as the entry tells
+pub record GoesAlone (code : LinearCode) (mood : Mood) (context : Context) (e : Entry) : Type 0 where
   pub stage : Stage Spot
   pub comes_to : (gone_on code (bound_of mood) context).stage ≡ Some stage
   pub stop : Stop
   pub stops : (gone_on code (bound_of mood) context).stop ≡ Some stop
-  pub alone : (gone_on code (bound_of mood) context).turns ≡ e.local
+  pub turns : (gone_on code (bound_of mood) context).turns ≡ e.local
+
+-- the machine's event there, if it has one, does what the entry does, and its turn is the entry's, behind those that the thread does alone
+pub record DoesTurn (code : LinearCode) (s : Settings) (here : RunState Shared Context) (e : Entry) (stage : Stage Spot) (stop : Stop) : Type 0 where
   pub next : RunState Shared Context
   pub goes : step (machine_of code) (rules_of s) here e ≡ Some next
   pub memory : next.shared.memory ≡ (behind_turn code here e.thread stage stop).memory
   pub ending : next.ending ≡ (behind_turn code here e.thread stage stop).end
   pub turns : journal_picks (e ∷ [])
       ≡ replicate e.local (pick e.thread answers.Plain) ++ order_of (image_of code here.shared) (turn_events code here e.thread stage stop) (gone_to here e.thread stage)
-  pub keeps : (choice : Choice) → turn_events code here e.thread stage stop ≡ act e.thread choice ∷ []
-      → Claim (journal_picks log ++ replicate e.local (pick e.thread answers.Plain)) (image_of code here.shared) (gone_to here e.thread stage) choice stage
+
+-- all of it; and what is claimed of the step, behind the turns of the journal so far and the thread's own
+pub record TurnOf (code : LinearCode) (s : Settings) (log : List Entry) (e : Entry) (Claim : List Pick → Image Spot → events.MachineState Spot → Choice → Stage Spot → Type 0) : Type 0 where
+  pub is_out : IsOut code s log e
+  pub alone : GoesAlone code is_out.mood is_out.context e
+  pub does : DoesTurn code s is_out.here e alone.stage alone.stop
+  pub keeps : (choice : Choice) → turn_events code is_out.here e.thread alone.stage alone.stop ≡ act e.thread choice ∷ []
+      → Claim (journal_picks log ++ replicate e.local (pick e.thread answers.Plain)) (image_of code is_out.here.shared) (gone_to is_out.here e.thread alone.stage) choice alone.stage
 
 -- unless a turn broke a rule, of the journal so far or of the thread's own, its step stays in the run of these turns
 abbrev pub TurnStays : Ir → LinearCode → Settings → List Entry → Entry → Type 0
