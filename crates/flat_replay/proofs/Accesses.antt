@@ -133,27 +133,14 @@ accesses_of_guarded_journals_stay follow p guarded code emitted lawful program s
 module _ (p : Ir) (answers : EachTurnTakesAnAnswer p) (code : LinearCode) (s : Settings) (log : List Entry) (e : Entry) where
   turn_of : TurnStaysUpToAKind p code s log e → TurnStays p code s log e
   turn_of t = record {
-    here = t.here;
-    leads = t.leads;
-    context = t.context;
-    count = t.count;
-    mood = t.mood;
     is_out = t.is_out;
-    stage = t.stage;
-    comes_to = t.comes_to;
-    stop = t.stop;
-    stops = t.stops;
     alone = t.alone;
-    next = t.next;
-    goes = t.goes;
-    memory = t.memory;
-    ending = t.ending;
-    turns = t.turns;
+    does = t.does;
     keeps = λ choice is.
-        let y = image_of code t.here.shared in
-        let moved = gone_to t.here e.thread t.stage in
+        let y = image_of code t.is_out.here.shared in
+        let moved = gone_to t.is_out.here e.thread t.alone.stage in
         up_to_a_break p answers (journal_picks log ++ replicate e.local (pick e.thread answers_of.Plain))
-        (λ u. StandsBy y p (ids_told log) u moved × (TakesRightKinds p u e.thread → ActStays y p (ids_told log) u moved e.thread choice t.stage)) (λ u. ActStays y p (ids_told log) u moved e.thread choice t.stage)
+        (λ u. StandsBy y p (ids_told log) u moved × (TakesRightKinds p u e.thread → ActStays y p (ids_told log) u moved e.thread choice t.alone.stage)) (λ u. ActStays y p (ids_told log) u moved e.thread choice t.alone.stage)
         (λ u right h. h.1 (right e.thread)) (t.keeps choice is);
   }
 

@@ -17,7 +17,7 @@ use Rattle.struct_ir.specs.meaning.Start.{start}
 use Rattle.struct_ir.specs.meaning.Threads.{program_of}
 use Rattle.ak_trace.specs.declared.endings.End.{End}
 use Rattle.flat_meaning.specs.Accesses.{Choice}
-use Rattle.flat_meaning.specs.Allowed.{AreAllowed, IsAllowed, MayAct, MayServe, MayServeAll, MayStep, MayStepAt, StandsBefore}
+use Rattle.flat_meaning.specs.Allowed.{AreAllowed, IsAllowed, MayAct, MayServe, MayServeAll, MayStep, MayStepAt}
 use Rattle.flat_meaning.specs.Events.{MachineState, Serve, Event, act, after_all, after_serve, after_serves, end_or, first_state, put_if, served_state}
 use Rattle.flat_meaning.specs.Effects.{serve_effect}
 use Rattle.flat_meaning.specs.Image.{Image}
@@ -26,16 +26,16 @@ use Rattle.flat_meaning.specs.Memory.{Memory, words_leaving}
 use Rattle.flat_meaning.specs.Order.{act_picks, answer_here, order_of, pick_if, picks_of, picks_of_act, picks_of_serve, tried_by}
 use Rattle.flat_meaning.specs.Ready.{is_allocation, takes_room}
 use Rattle.flat_meaning.specs.Reaching.{Unbroken}
-use Rattle.flat_meaning.specs.Stages.{Stage, before, going, landed, starts, steps, thread_at, waiting}
+use Rattle.flat_meaning.specs.Stages.{Stage, before, going, landed, starts, steps, waiting}
 use Rattle.flat_meaning.specs.Start.{ids_of}
 use Rattle.flat_meaning.specs.Words.{Words, word_at}
 use Rattle.flat_simulation.specs.Kinds.{TakesRightKinds, MeetsWrongKind, UpToAKind, LinearStandsAfter}
-use Rattle.flat_simulation.specs.LinearSteps.{AllocationsFit, StepTouches}
+use Rattle.flat_simulation.specs.LinearSteps.{AllocationsFit, StepTouches, TurnsTouch}
 use Rattle.flat_simulation.proofs.KindRuns.{up_to}
 use Rattle.flat_simulation.proofs.ServedOn.{IsGone, gone_traps, kept_or_gone, may_act_left, serving_on}
 use Rattle.flat_simulation.proofs.ServedSteps.{IsServing, KeepsOldAt}
 use Rattle.flat_simulation.proofs.StepKinds.{malloc_before}
-use Rattle.flat_replay.specs.Accesses.{ActStays, ServeStays, StandsBy, TurnsTouch}
+use Rattle.flat_replay.specs.Accesses.{ActStays, ServeStays, StandsBy}
 use Rattle.flat_replay.proofs.Segments.{Comes}
 
 -- of all, the first are so
@@ -89,23 +89,13 @@ module _ (y : Image Spot) where
     abbrev stands_by : s.end ≡ None → StandsBy y p given u s
     stands_by open_ = record { names = f.names; loaded = f.made.loaded; ids = f.made.ids ∙ ids; world = f.world; stacks = f.stacks open_ }
 
-    touch_in : (thread : ℕ) (right : TakesRightKinds p u thread) (choice : Choice) (stage : Stage Spot) (at : own_at s.own thread ≡ Some stage) (may : IsAllowed y s (act thread choice)) → StandsBefore y (Some stage) steps
-        → TurnsTouch y p f.names u s (f.stacks may.0 thread stage at).own (thread_at y stage) (picks_of y s (act thread choice) ++ tried_by y s (act thread choice))
-    touch_in thread right choice stage at may is =
-        let h = f.stacks may.0 thread stage at in
-        (f.steps thread right).reaches choice h.own stage h.at at may (subst (λ o. StandsBefore y o steps) (sym at) is)
-
     -- a step that may come next
     act_stays : (thread : ℕ) (right : TakesRightKinds p u thread) (choice : Choice) (stage : Stage Spot) → own_at s.own thread ≡ Some stage → IsAllowed y s (act thread choice) → ActStays y p given u s thread choice stage
     act_stays thread right choice stage at may = let h = f.stacks may.0 thread stage at in record {
       stands = stands_by may.0;
       own = h.own;
       at = h.at;
-      touches = touch_in thread right choice stage at may;
-      waits = (f.steps thread right).waits choice may;
-      traps = (f.steps thread right).traps choice may;
-      prints = (f.steps thread right).prints choice may;
-      calls = λ number begun end. (f.steps thread right).calls number choice h.own stage h.at at begun may end;
+      follows = f.steps thread right choice h.own stage h.at at may;
     }
 
   -- an allocation that may be served next, in the state that the barrier leaves where it serves those before alone
@@ -137,7 +127,7 @@ module _ (y : Image Spot) where
         subst (λ (words : Option (List ℕ)). MayAct (without_words (words_leaving words) r.memory.storage) q.top.own v.choice (y.flow.here q.top.at)) (sym serving.leaving) act_left in
         let step_may : MayStepAt y s.memory v.choice (Some (waiting q)) = subst (MayStep y s.memory v.choice q) (sym steps_there) act_there in
         let acts : IsAllowed y s (act v.thread v.choice) = (open_, subst (MayStepAt y s.memory v.choice) (sym at) step_may) in
-        let all = touch_in p ds given u s f ids v.thread right v.choice (waiting q) at acts steps_there in
+        let all = (f.steps v.thread right v.choice own (waiting q) (f.stacks open_ v.thread (waiting q) at).at at acts).touches steps_there in
         let first : Touch (picks_of y s (act v.thread v.choice)) = all_first (λ (k : Pick). Unbroken (picked (program_of p) u k) → StepTouches y p f.names u s k own q) (picks_of y s (act v.thread v.choice)) (tried_by y s (act v.thread v.choice)) all in
         let same : picks_of y s (act v.thread v.choice) ≡ picks_of_serve y s.memory v (Some (waiting q)) = ap (picks_of_act y s.memory v.thread v.choice) at ∙ ap (act_picks y s.memory v.thread v.choice q) steps_there in
         subst Touch same first

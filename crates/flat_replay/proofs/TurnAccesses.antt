@@ -149,22 +149,21 @@ module _ (p : Ir) (code : LinearCode) (s : Settings) (program : IsProgram code)
 
     pub turn_stays : (next : RunState Shared Context) (ds : List Entry) (spare : ℕ) → next ≡ record behind { due = ds; spare = spare } → step (machine_of code) (rules_of s) x entry ≡ Some next → TurnStaysUpToAKind p code s log entry
     turn_stays next ds spare is st = record {
-      here = x;
-      leads = leads;
-      context = c;
-      count = n;
-      mood = mood;
-      is_out = g.there;
-      stage = g.came.stage;
-      comes_to = ap (λ (o : Option (Came Spot)). (stopped_at c o).stage) g.is;
-      stop = g.came.stop;
-      stops = ap (λ (o : Option (Came Spot)). (stopped_at c o).stop) g.is;
-      alone = ap (λ (o : Option (Came Spot)). (stopped_at c o).turns) g.is;
-      next = next;
-      goes = st;
-      memory = ap (λ (z : RunState Shared Context). z.shared.memory) is ∙ sym stands.memory ∙ ap (λ (z : events.MachineState Spot). z.memory) (sym its.after);
-      ending = ap (λ (z : RunState Shared Context). z.ending) is ∙ sym stands.ending ∙ ap (λ (z : events.MachineState Spot). z.end) (sym its.after);
-      turns = turn_picks w c.number g.came.turns turned ∙ ap (λ (ps : List Pick). replicate g.came.turns (pick c.number answers.Plain) ++ ps) (sym tells.order);
+      is_out = record { here = x; leads = leads; context = c; count = n; mood = mood; at = g.there };
+      alone = record {
+        stage = g.came.stage;
+        comes_to = ap (λ (o : Option (Came Spot)). (stopped_at c o).stage) g.is;
+        stop = g.came.stop;
+        stops = ap (λ (o : Option (Came Spot)). (stopped_at c o).stop) g.is;
+        turns = ap (λ (o : Option (Came Spot)). (stopped_at c o).turns) g.is;
+      };
+      does = record {
+        next = next;
+        goes = st;
+        memory = ap (λ (z : RunState Shared Context). z.shared.memory) is ∙ sym stands.memory ∙ ap (λ (z : events.MachineState Spot). z.memory) (sym its.after);
+        ending = ap (λ (z : RunState Shared Context). z.ending) is ∙ sym stands.ending ∙ ap (λ (z : events.MachineState Spot). z.end) (sym its.after);
+        turns = turn_picks w c.number g.came.turns turned ∙ ap (λ (ps : List Pick). replicate g.came.turns (pick c.number answers.Plain) ++ ps) (sym tells.order);
+      };
       keeps = act_keeps;
     }
 

@@ -1,13 +1,12 @@
 -- What the steps of a journal read and write, entry by entry: of its own turns, in the states that its replay has there.
-use Rattle.std.specs.Prelude.{◌≡◌, ◌≢◌, ℕ, true, List, [], ◌∷◌, ◌++◌, All, replicate, set, Some, None}
-use Rattle.ak_trace.specs.declared.endings.End.TheVariants as ends
+use Rattle.std.specs.Prelude.{◌≡◌, ◌≢◌, ℕ, true, List, [], ◌∷◌, ◌++◌, replicate, set, Some, None}
 use Rattle.ak_trace.specs.declared.entry.Entry.{Entry}
 use Rattle.ak_trace.specs.Hows as how
 use Rattle.ak_trace.specs.Kinds as kind
 use Rattle.ak_words.specs.Prefix.{IsPrefix}
 use Rattle.block_store.specs.declared.values.Answer.TheVariants as answers
 use Rattle.block_store.specs.Runs as runs
-use Rattle.block_store.specs.Runs.{Pick, own_at, picked, run}
+use Rattle.block_store.specs.Runs.{Pick, own_at, run}
 use Rattle.struct_ir.specs.Nodes.{Ir}
 use Rattle.struct_ir.specs.Instrs.{LinearCode}
 use Rattle.struct_ir.specs.Linear.{Spot}
@@ -18,16 +17,14 @@ use Rattle.struct_ir.specs.meaning.Start.{start}
 use Rattle.struct_ir.specs.meaning.Threads.{program_of}
 use Rattle.flat_meaning.specs.declared.endings.Stop.{Stop}
 use Rattle.flat_meaning.specs.Accesses.{Choice}
-use Rattle.flat_meaning.specs.Allowed.{StandsBefore}
 use Rattle.flat_meaning.specs.Events as events
-use Rattle.flat_meaning.specs.Events.{Event, Serve, act, after, after_all, after_serves, moved_state, served_state, serving_state}
+use Rattle.flat_meaning.specs.Events.{Event, Serve, act, after_all, after_serves, moved_state, served_state, serving_state}
 use Rattle.flat_meaning.specs.Image.{Image}
 use Rattle.flat_meaning.specs.Journals.{journal_picks}
 use Rattle.flat_meaning.specs.Names.{Name, ids_in}
-use Rattle.flat_meaning.specs.Order.{order_of, pick, picks_of, picks_of_serve, picks_of_serves, tried_by}
-use Rattle.flat_meaning.specs.Reaching.{Unbroken, Waits, Broken}
-use Rattle.flat_meaning.specs.Simulation.{AllComeOut, IsTrap, UpToABreak}
-use Rattle.flat_meaning.specs.Stages.{Stage, steps, thread_at, waiting}
+use Rattle.flat_meaning.specs.Order.{order_of, pick, picks_of_serve, picks_of_serves}
+use Rattle.flat_meaning.specs.Simulation.{UpToABreak}
+use Rattle.flat_meaning.specs.Stages.{Stage, waiting}
 use Rattle.flat_meaning.specs.Stands.{WorldStands}
 use Rattle.flat_meaning.specs.Start.{first_names, served_ids}
 use Rattle.flat_meaning.specs.Words.{Words}
@@ -47,7 +44,7 @@ use Rattle.flat_machine.specs.Replays.{replay}
 use Rattle.flat_machine.specs.Shares.{Shared, image_of}
 use Rattle.flat_machine.specs.Start.{first_shared, settings_limits}
 use Rattle.flat_machine.specs.Sweeping.{at_home, sweep_moves, sweep_serves}
-use Rattle.flat_simulation.specs.LinearSteps.{HasBegun, HasStack, PrintsPast, Enters, StepTouches}
+use Rattle.flat_simulation.specs.LinearSteps.{ActFollows, HasStack, TurnsTouch}
 use Rattle.flat_replay.specs.Barriers.{middle}
 use Rattle.flat_replay.specs.Ids.{ids_told}
 use Rattle.flat_replay.specs.Journals.{stages_in}
@@ -91,22 +88,12 @@ pub record StandsBy (y : Image Spot) (p : Ir) (given : List ℕ) (u : runs.State
   pub world : WorldStands names u.world s.memory
   pub stacks : (thread : ℕ) (stage : Stage Spot) → own_at s.own thread ≡ Some stage → HasStack y p thread names u stage
 
--- of each of these turns of a thread, unless it breaks a rule: what the step touches are bytes of blocks that the turn reaches
-abbrev pub TurnsTouch : Image Spot → Ir → List Name → runs.State (Thread Position Own) → events.MachineState Spot → Thread Position Own → Thread Spot Words → List Pick → Type 0
-TurnsTouch y p names u s t q turns = All (λ (k : Pick). Unbroken (picked (program_of p) u k) → StepTouches y p names u s k t q) turns
-
--- a thread's step, with what is chosen for it, done or tried: what it touches is what its turn reaches, unless that breaks a rule; where it
--- waits for a mutex or a thread, its turn waits, or breaks a rule; where it traps, its turn breaks one; where it would print more than may
--- be printed, its turn does; and where its call has no room, its turn enters that
+-- a thread's step, with what is chosen for it, done or tried: it follows its turn
 pub record ActStays (y : Image Spot) (p : Ir) (given : List ℕ) (u : runs.State (Thread Position Own)) (s : events.MachineState Spot) (thread : ℕ) (choice : Choice) (stage : Stage Spot) : Type 0 where
   pub stands : StandsBy y p given u s
   pub own : Thread Position Own
   pub at : own_at u.own thread ≡ Some own
-  pub touches : StandsBefore y (Some stage) steps → TurnsTouch y p stands.names u s own (thread_at y stage) (picks_of y s (act thread choice) ++ tried_by y s (act thread choice))
-  pub waits : (after y s (act thread choice)).end ≡ None → AllComeOut p u Waits (tried_by y s (act thread choice))
-  pub traps : IsTrap (after y s (act thread choice)).end → AllComeOut p u Broken (tried_by y s (act thread choice))
-  pub prints : (after y s (act thread choice)).end ≡ Some ends.OutputLimit → AllComeOut p u (PrintsPast y.layout.limits.output) (tried_by y s (act thread choice))
-  pub calls : (number : ℕ) → HasBegun stage → (after y s (act thread choice)).end ≡ Some (ends.StackLimit number) → AllComeOut p u (Enters own) (tried_by y s (act thread choice))
+  pub follows : ActFollows y p stands.names u s thread choice own stage
 
 -- an allocation that is served, of a thread that waits there, in the state that its barrier leaves where it serves those before alone: their
 -- old objects have left. There a realloc of what has left with them is a trap, and so has no turn
@@ -118,29 +105,39 @@ pub record ServeStays (y : Image Spot) (p : Ir) (given : List ℕ) (u : runs.Sta
 
 -- ---- an entry of a turn
 
--- what the journal leads to, where the entry's thread is out with the entry's worker; where that goes to alone, in as many turns as the
--- entry tells; the machine's event there, if it has one, which does what the entry does and whose turn is the entry's; and what is claimed
--- of its step, behind the turns of the journal so far and the thread's own
-pub record TurnOf (code : LinearCode) (s : Settings) (log : List Entry) (e : Entry) (Claim : List Pick → Image Spot → events.MachineState Spot → Choice → Stage Spot → Type 0) : Type 0 where
+-- what the journal leads to, where the entry's thread is out with the entry's worker
+pub record IsOut (code : LinearCode) (s : Settings) (log : List Entry) (e : Entry) : Type 0 where
   pub here : RunState Shared Context
   pub leads : replay code s log ≡ Some here
   pub context : Context
   pub count : ℕ
   pub mood : Mood
-  pub is_out : place_at here.places e.thread ≡ out e.worker context count mood
+  pub at : place_at here.places e.thread ≡ out e.worker context count mood
+
+-- where a thread goes to alone, in as many turns as the entry tells
+pub record GoesAlone (code : LinearCode) (mood : Mood) (context : Context) (e : Entry) : Type 0 where
   pub stage : Stage Spot
   pub comes_to : (gone_on code (bound_of mood) context).stage ≡ Some stage
   pub stop : Stop
   pub stops : (gone_on code (bound_of mood) context).stop ≡ Some stop
-  pub alone : (gone_on code (bound_of mood) context).turns ≡ e.local
+  pub turns : (gone_on code (bound_of mood) context).turns ≡ e.local
+
+-- the machine's event there, if it has one, does what the entry does, and its turn is the entry's, behind those that the thread does alone
+pub record DoesTurn (code : LinearCode) (s : Settings) (here : RunState Shared Context) (e : Entry) (stage : Stage Spot) (stop : Stop) : Type 0 where
   pub next : RunState Shared Context
   pub goes : step (machine_of code) (rules_of s) here e ≡ Some next
   pub memory : next.shared.memory ≡ (behind_turn code here e.thread stage stop).memory
   pub ending : next.ending ≡ (behind_turn code here e.thread stage stop).end
   pub turns : journal_picks (e ∷ [])
       ≡ replicate e.local (pick e.thread answers.Plain) ++ order_of (image_of code here.shared) (turn_events code here e.thread stage stop) (gone_to here e.thread stage)
-  pub keeps : (choice : Choice) → turn_events code here e.thread stage stop ≡ act e.thread choice ∷ []
-      → Claim (journal_picks log ++ replicate e.local (pick e.thread answers.Plain)) (image_of code here.shared) (gone_to here e.thread stage) choice stage
+
+-- all of it; and what is claimed of the step, behind the turns of the journal so far and the thread's own
+pub record TurnOf (code : LinearCode) (s : Settings) (log : List Entry) (e : Entry) (Claim : List Pick → Image Spot → events.MachineState Spot → Choice → Stage Spot → Type 0) : Type 0 where
+  pub is_out : IsOut code s log e
+  pub alone : GoesAlone code is_out.mood is_out.context e
+  pub does : DoesTurn code s is_out.here e alone.stage alone.stop
+  pub keeps : (choice : Choice) → turn_events code is_out.here e.thread alone.stage alone.stop ≡ act e.thread choice ∷ []
+      → Claim (journal_picks log ++ replicate e.local (pick e.thread answers.Plain)) (image_of code is_out.here.shared) (gone_to is_out.here e.thread alone.stage) choice alone.stage
 
 -- unless a turn broke a rule, of the journal so far or of the thread's own, its step stays in the run of these turns
 abbrev pub TurnStays : Ir → LinearCode → Settings → List Entry → Entry → Type 0

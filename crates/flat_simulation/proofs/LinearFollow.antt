@@ -28,8 +28,8 @@ use Rattle.flat_meaning.specs.Stands.{PointStands, WorldStands, StageStands}
 use Rattle.flat_meaning.specs.Simulation.{AllComeOut, IsTrap}
 use Rattle.flat_meaning.specs.Start.{ids_of, AreMadeBy}
 use Rattle.flat_meaning.specs.Touched.{touched_at}
-use Rattle.flat_simulation.specs.Kinds.{IsGuarded, TakesRightKinds, MeetsWrongKind, UpToAKind, UpToAKindFrom, StepFollows, LinearStepFollows, LinearStandsAfter}
-use Rattle.flat_simulation.specs.LinearSteps.{AllocationsFit, PrintsPast, Enters, StepTouches, HasStack}
+use Rattle.flat_simulation.specs.Kinds.{IsGuarded, TakesRightKinds, MeetsWrongKind, UpToAKind, UpToAKindFrom, StepFollows, LinearStandsAfter}
+use Rattle.flat_simulation.specs.LinearSteps.{AllocationsFit, PrintsPast, Enters, StepTouches, TurnsTouch, LinearStepFollows, HasStack}
 use Rattle.flat_simulation.specs.inner.EventRuns.{Leads}
 use Rattle.flat_simulation.specs.inner.Kept.{EventsKeep}
 use Rattle.flat_simulation.specs.inner.Level.{image, StagesMatch, StatesMatch}
@@ -135,7 +135,7 @@ module _ (p : Ir) (limits : Limits) (its : IsImage (structured_image p limits) p
           abbrev Touching : Pick → Type 0
           Touching k = Unbroken (picked P u k) → StepTouches y p names u r k t (thread_at y h)
 
-          all_touch : own_at u.own thread ≡ Some t → before y (thread_at y h) ≡ steps → All Touching (picks_of y r (act thread choice) ++ tried_by y r (act thread choice))
+          all_touch : own_at u.own thread ≡ Some t → before y (thread_at y h) ≡ steps → TurnsTouch y p names u r t (thread_at y h) (picks_of y r (act thread choice) ++ tried_by y r (act thread choice))
           all_touch i is =
               let is' : before x (thread_at x g.stage) ≡ steps = sym (before_same x.layout structured D (start_in p) code' R one (thread_at x g.stage) (thread_at y h) g.same) ∙ is in
               let at : StandsBefore x (own_at a.came.own thread) steps = subst (λ o. StandsBefore x o steps) (sym g.at) (stands_at x g.stage g.begun steps is') in
@@ -146,31 +146,23 @@ module _ (p : Ir) (limits : Limits) (its : IsImage (structured_image p limits) p
       -- ---- whatever step of a thread may come next
 
       module _ (thread : ℕ) (right : TakesRightKinds p u thread) where
-        step_touches : (choice : Choice) (t : Thread Position Own) (h : Stage Spot) → own_at u.own thread ≡ Some t → own_at r.own thread ≡ Some h → IsAllowed y r (act thread choice) → StandsBefore y (own_at r.own thread) steps
-            → All (λ (k : Pick). Unbroken (picked P u k) → StepTouches y p names u r k t (thread_at y h)) (picks_of y r (act thread choice) ++ tried_by y r (act thread choice))
-        step_touches choice t h i e may at =
-            let b = stands_begun y h steps (subst (λ o. StandsBefore y o steps) e at) in
-            let a = alike thread choice may in
-            all_touch thread right choice a t h (a.meets h e b.0) i b.1
-
         linear_step_follows : LinearStepFollows y p names u r thread
-        linear_step_follows = record {
-          reaches = step_touches;
-          waits = λ choice may end.
-              let a = alike thread choice may in
-              subst (λ l. AllComeOut p u Waits l) a.tried ((follow thread right choice a).waits choice a.allowed (a.end ∙ end));
-          traps = λ choice may trap.
-              let a = alike thread choice may in
-              subst (λ l. AllComeOut p u Broken l) a.tried ((follow thread right choice a).traps choice a.allowed (subst IsTrap (sym a.end) trap));
-          prints = λ choice may end.
-              let a = alike thread choice may in
-              subst (λ l. AllComeOut p u (PrintsPast limits.output) l) a.tried (act_prints p limits its names u a.came (stands thread right choice a) a.allowed.0 thread right choice a.allowed (a.end ∙ end));
-          calls = λ number choice t h i e b may end.
-              let a = alike thread choice may in
-              let g = a.meets h e b in
-              subst (λ l. AllComeOut p u (Enters t) l) a.tried
-              (act_enters p limits its names u a.came (stands thread right choice a) a.allowed.0 thread right number choice t g.stage i g.at g.begun a.allowed (a.end ∙ end));
-        }
+        linear_step_follows choice t h i e may =
+            let a = alike thread choice may in
+            record {
+              touches = λ at.
+                  let b = stands_begun y h steps at in
+                  all_touch thread right choice a t h (a.meets h e b.0) i b.1;
+              waits = λ end. subst (λ l. AllComeOut p u Waits l) a.tried ((follow thread right choice a).waits choice a.allowed (a.end ∙ end));
+              traps = λ trap. subst (λ l. AllComeOut p u Broken l) a.tried ((follow thread right choice a).traps choice a.allowed (subst IsTrap (sym a.end) trap));
+              prints = λ end.
+                  subst (λ l. AllComeOut p u (PrintsPast limits.output) l) a.tried
+                  (act_prints p limits its names u a.came (stands thread right choice a) a.allowed.0 thread right choice a.allowed (a.end ∙ end));
+              calls = λ number b end.
+                  let g = a.meets h e b in
+                  subst (λ l. AllComeOut p u (Enters t) l) a.tried
+                  (act_enters p limits its names u a.came (stands thread right choice a) a.allowed.0 thread right number choice t g.stage i g.at g.begun a.allowed (a.end ∙ end));
+            }
 
       lies : r.end ≡ None → (thread : ℕ) (h : Stage Spot) → own_at r.own thread ≡ Some h → HasStack y p thread names u h
       lies open_ thread h f = by (own_at u.own thread) refl (own_at s.own thread) ((state_stands x p its names u s now.stand).threads thread) (subst (λ o. StagesMatch structured D R (own_at s.own thread) o) f ((match.stages open_).each thread))

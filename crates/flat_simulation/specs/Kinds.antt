@@ -20,12 +20,11 @@ use Rattle.struct_ir.specs.Emitted.{IsEmitted}
 use Rattle.struct_ir.specs.meaning.Blocks.{Own, Fault, wrong_kind, blocks_machine}
 use Rattle.struct_ir.specs.meaning.Start.{start}
 use Rattle.struct_ir.specs.meaning.Threads.{blocks_world, program_of, start_in}
-use Rattle.ak_trace.specs.declared.endings.End.TheVariants as ends
 use Rattle.flat_meaning.specs.Image.{Image, Limits, limits_for, structured_image, linear_image}
 use Rattle.flat_meaning.specs.Accesses.{Choice}
 use Rattle.flat_meaning.specs.Stages.{Stage, steps, thread_at}
 use Rattle.flat_meaning.specs.Events.{MachineState, Event, act, after, after_all, first_state}
-use Rattle.flat_meaning.specs.Order.{pick, order_of, picks_of, tried_by}
+use Rattle.flat_meaning.specs.Order.{pick, order_of, tried_by}
 use Rattle.flat_meaning.specs.Allowed.{StandsBefore, IsAllowed, AreAllowed}
 use Rattle.flat_meaning.specs.Names.{Name}
 use Rattle.flat_meaning.specs.Stands.{StandsFor, WorldStands}
@@ -33,7 +32,7 @@ use Rattle.flat_meaning.specs.Start.{AreMadeBy}
 use Rattle.flat_meaning.specs.Reaching.{Unbroken, Waits, Broken, StepReaches}
 use Rattle.flat_meaning.specs.Emitted.{ComeToTheSame}
 use Rattle.flat_meaning.specs.Simulation.{AllComeOut, IsTrap, turns_at}
-use Rattle.flat_simulation.specs.LinearSteps.{PrintsPast, Enters, HasBegun, HasStack, StepTouches}
+use Rattle.flat_simulation.specs.LinearSteps.{HasStack, LinearStepFollows}
 
 -- what is asked of such code: it is valid; on every path each access goes through its base's slot, which no list since lacks; and its
 -- plain data is small
@@ -127,19 +126,6 @@ abbrev pub EventsFollowCode : Type 0
 EventsFollowCode = (p : Ir) → IsGuarded p → (output heaps heap ids : ℕ) → IsShape heaps heap ids → FollowsCode p (structured_image p (limits_for output heaps heap ids))
 
 -- ---- the events of linear code
-
--- whatever step of this thread may come next, as above; where it would print more than may be printed, its turn does; and where a call has no
--- room, its turn enters that
-pub record LinearStepFollows (y : Image Spot) (p : Ir) (names : List Name) (u : runs.State (Thread Position Own)) (s : MachineState Spot) (thread : ℕ) : Type 0 where
-  pub reaches : (choice : Choice) (t : Thread Position Own) (stage : Stage Spot) → own_at u.own thread ≡ Some t → own_at s.own thread ≡ Some stage
-      → IsAllowed y s (act thread choice) → StandsBefore y (own_at s.own thread) steps
-      → All (λ (k : Pick). Unbroken (picked (program_of p) u k) → StepTouches y p names u s k t (thread_at y stage)) (picks_of y s (act thread choice) ++ tried_by y s (act thread choice))
-  pub waits : (choice : Choice) → IsAllowed y s (act thread choice) → (after y s (act thread choice)).end ≡ None → AllComeOut p u Waits (tried_by y s (act thread choice))
-  pub traps : (choice : Choice) → IsAllowed y s (act thread choice) → IsTrap (after y s (act thread choice)).end → AllComeOut p u Broken (tried_by y s (act thread choice))
-  pub prints : (choice : Choice) → IsAllowed y s (act thread choice) → (after y s (act thread choice)).end ≡ Some ends.OutputLimit
-      → AllComeOut p u (PrintsPast y.layout.limits.output) (tried_by y s (act thread choice))
-  pub calls : (number : ℕ) (choice : Choice) (t : Thread Position Own) (stage : Stage Spot) → own_at u.own thread ≡ Some t → own_at s.own thread ≡ Some stage → HasBegun stage
-      → IsAllowed y s (act thread choice) → (after y s (act thread choice)).end ≡ Some (ends.StackLimit number) → AllComeOut p u (Enters t) (tried_by y s (act thread choice))
 
 -- by the names that the events made, what is shared stands for the source's world; while the run goes on, the source has each thread that the
 -- machine has, and its stack objects lie at their places; and the next step of each thread follows the source's, unless the thread's next turn

@@ -77,19 +77,24 @@ pub record StepTouches (y : Image Spot) (p : Ir) (names : List Name) (u : runs.S
   pub begun : (block : ℕ) (b : Block) → length u.world.blocks ≤ block → live stop.own.blocks block ≡ Some b → (i : ℕ) × (stop.own.objects i ≡ Some block)
   pub reaches : StaysInBlocks (names ++ made) s.memory.storage (touched_at y.layout q.top.own s.memory (y.flow.here q.top.at)) (reached_by_turn u.world stop.own (structured.here stop.at) (picked (program_of p) u k))
 
--- whatever step may come next: where its turn breaks no rule, what it touches is what that reaches; where it waits for a mutex or a
--- thread, its turn waits, or breaks a rule; where it traps, its turn breaks one; where it would print more than may be printed, its turn
--- does; and where a call has no room, its turn enters that
-pub record LinearStepsFollow (y : Image Spot) (p : Ir) (names : List Name) (u : runs.State (Thread Position Own)) (s : MachineState Spot) : Type 0 where
-  pub reaches : (thread : ℕ) (choice : Choice) (t : Thread Position Own) (stage : Stage Spot) → own_at u.own thread ≡ Some t → own_at s.own thread ≡ Some stage
-      → IsAllowed y s (act thread choice) → StandsBefore y (own_at s.own thread) steps
-      → All (λ (k : Pick). Unbroken (picked (program_of p) u k) → StepTouches y p names u s k t (thread_at y stage)) (picks_of y s (act thread choice) ++ tried_by y s (act thread choice))
-  pub waits : (thread : ℕ) (choice : Choice) → IsAllowed y s (act thread choice) → (after y s (act thread choice)).end ≡ None → AllComeOut p u Waits (tried_by y s (act thread choice))
-  pub traps : (thread : ℕ) (choice : Choice) → IsAllowed y s (act thread choice) → IsTrap (after y s (act thread choice)).end → AllComeOut p u Broken (tried_by y s (act thread choice))
-  pub prints : (thread : ℕ) (choice : Choice) → IsAllowed y s (act thread choice) → (after y s (act thread choice)).end ≡ Some ends.OutputLimit
-      → AllComeOut p u (PrintsPast y.layout.limits.output) (tried_by y s (act thread choice))
-  pub calls : (thread number : ℕ) (choice : Choice) (t : Thread Position Own) (stage : Stage Spot) → own_at u.own thread ≡ Some t → own_at s.own thread ≡ Some stage → HasBegun stage
-      → IsAllowed y s (act thread choice) → (after y s (act thread choice)).end ≡ Some (ends.StackLimit number) → AllComeOut p u (Enters t) (tried_by y s (act thread choice))
+-- of each of these turns of a thread, unless it breaks a rule: what the step touches are bytes of blocks that the turn reaches
+abbrev pub TurnsTouch : Image Spot → Ir → List Name → runs.State (Thread Position Own) → MachineState Spot → Thread Position Own → Thread Spot Words → List Pick → Type 0
+TurnsTouch y p names u s t q turns = All (λ (k : Pick). Unbroken (picked (program_of p) u k) → StepTouches y p names u s k t q) turns
+
+-- a thread's step, with what is chosen for it, done or tried: what it touches is what its turn reaches, unless that breaks a rule; where it
+-- waits for a mutex or a thread, its turn waits, or breaks a rule; where it traps, its turn breaks one; where it would print more than may
+-- be printed, its turn does; and where its call has no room, its turn enters that
+pub record ActFollows (y : Image Spot) (p : Ir) (names : List Name) (u : runs.State (Thread Position Own)) (s : MachineState Spot) (thread : ℕ) (choice : Choice) (t : Thread Position Own) (stage : Stage Spot) : Type 0 where
+  pub touches : StandsBefore y (Some stage) steps → TurnsTouch y p names u s t (thread_at y stage) (picks_of y s (act thread choice) ++ tried_by y s (act thread choice))
+  pub waits : (after y s (act thread choice)).end ≡ None → AllComeOut p u Waits (tried_by y s (act thread choice))
+  pub traps : IsTrap (after y s (act thread choice)).end → AllComeOut p u Broken (tried_by y s (act thread choice))
+  pub prints : (after y s (act thread choice)).end ≡ Some ends.OutputLimit → AllComeOut p u (PrintsPast y.layout.limits.output) (tried_by y s (act thread choice))
+  pub calls : (number : ℕ) → HasBegun stage → (after y s (act thread choice)).end ≡ Some (ends.StackLimit number) → AllComeOut p u (Enters t) (tried_by y s (act thread choice))
+
+-- whatever step of this thread may come next
+abbrev pub LinearStepFollows : Image Spot → Ir → List Name → runs.State (Thread Position Own) → MachineState Spot → (thread : ℕ) → Type 0
+LinearStepFollows y p names u s thread = (choice : Choice) (t : Thread Position Own) (stage : Stage Spot) → own_at u.own thread ≡ Some t → own_at s.own thread ≡ Some stage → IsAllowed y s (act thread choice)
+    → ActFollows y p names u s thread choice t stage
 
 -- ---- where stack objects lie
 
@@ -126,4 +131,4 @@ pub record FollowsEvents (y : Image Spot) (p : Ir) (ds : List Event) (u : runs.S
   pub made : AreMadeBy y ds names
   pub world : WorldStands names u.world s.memory
   pub stacks : s.end ≡ None → (thread : ℕ) (stage : Stage Spot) → own_at s.own thread ≡ Some stage → HasStack y p thread names u stage
-  pub steps : LinearStepsFollow y p names u s
+  pub steps : (thread : ℕ) → LinearStepFollows y p names u s thread
