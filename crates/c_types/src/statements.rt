@@ -238,7 +238,15 @@ fn for_loop(
     ensures { (j : forms.Jumps) → Tells (each stmt_view) result context.new (judged_stmt (type_view t.now) j (trees.for place (source.for_first_view head.now.first) (option_map source.expr_view head.now.condition) (option_map source.simple_view head.now.step) (source.stmt_view s.now)) (context_view context.old)) }
 {
     context.enter(IndexMap::new(context.alloc))?;
-    let whole = for_inside(context, t, place, &head.first, &head.condition, &head.step, s);
+    let whole = for_inside(
+        context,
+        t,
+        place,
+        &head.first,
+        &head.condition,
+        &head.step,
+        s,
+    );
     context.leave();
     let whole = whole?;
     alone(context.alloc, Box::into_inner(whole))
