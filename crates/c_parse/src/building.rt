@@ -8,6 +8,7 @@ ghost use Rattle.c_grammar.specs.inner.Reading.{if_by};
 ghost use Rattle.parse_tokens.specs.inner.Moves.{Makes};
 ghost use Rattle.c_parse.specs.inner.Boxes.{boxed_simple_view, boxed_first_view, boxed_initialised_view, boxed_param_dim_view};
 
+use c_tree::syntax as tree;
 use c_tree::syntax::{
     AssignOp, Declaration, Declarator, Expr, ForFirst, InitDeclarator, ParamDim, Simple, StepOp,
     Stmt,
@@ -140,18 +141,25 @@ pub fn first_nothing(alloc: Global) -> Result<Box<ForFirst>, Stop>
     boxed_first(alloc, ForFirst::Nothing)
 }
 
+/// `decl`, as a statement
+pub fn declare_of(alloc: Global, declaration: Declaration) -> Result<Box<Stmt>, Stop>
+    ensures { Makes boxed_stmt_view (trees.declare (declaration_view declaration)) result }
+{
+    let declaration = boxed(alloc, declaration)?;
+    boxed_stmt(alloc, Stmt::Declare(declaration))
+}
+
 /// `simple ";"`
 pub fn simple_of(alloc: Global, simple: Box<Simple>) -> Result<Box<Stmt>, Stop>
     ensures { Makes boxed_stmt_view (trees.simple (boxed_simple_view simple)) result }
 {
-    boxed_stmt(alloc, Stmt::Simple(Box::into_inner(simple)))
+    boxed_stmt(alloc, Stmt::Simple(simple))
 }
 
 /// `"return" [ expr ] ";"`
 pub fn return_of(alloc: Global, place: u32, value: Option<Box<Expr>>) -> Result<Box<Stmt>, Stop>
     ensures { Makes boxed_stmt_view (trees.return place (option_map boxed_expr_view value)) result }
 {
-    let value = unboxed(value);
     boxed_stmt(alloc, Stmt::Return { place, value })
 }
 
@@ -165,7 +173,6 @@ pub fn if_of(
 ) -> Result<Box<Stmt>, Stop>
     ensures { Makes boxed_stmt_view (if_by place (boxed_expr_view condition) (boxed_stmt_view then) (option_map boxed_stmt_view otherwise)) result }
 {
-    let condition = Box::into_inner(condition);
     let stmt = Stmt::If {
         place,
         condition,
@@ -184,7 +191,6 @@ pub fn while_of(
 ) -> Result<Box<Stmt>, Stop>
     ensures { Makes boxed_stmt_view (trees.while place (boxed_expr_view condition) (boxed_stmt_view body)) result }
 {
-    let condition = Box::into_inner(condition);
     let stmt = Stmt::While {
         place,
         condition,
@@ -202,7 +208,6 @@ pub fn do_of(
 ) -> Result<Box<Stmt>, Stop>
     ensures { Makes boxed_stmt_view (trees.do_while place (boxed_stmt_view body) (boxed_expr_view condition)) result }
 {
-    let condition = Box::into_inner(condition);
     let stmt = Stmt::DoWhile {
         place,
         body,
@@ -220,7 +225,6 @@ pub fn switch_of(
 ) -> Result<Box<Stmt>, Stop>
     ensures { Makes boxed_stmt_view (trees.switch place (boxed_expr_view condition) (trees.stmts_of (map stmt_view entries.items))) result }
 {
-    let condition = Box::into_inner(condition);
     let stmt = Stmt::Switch {
         place,
         condition,
@@ -233,7 +237,6 @@ pub fn switch_of(
 pub fn case_of(alloc: Global, place: u32, value: Box<Expr>) -> Result<Box<Stmt>, Stop>
     ensures { Makes boxed_stmt_view (trees.case_label place (boxed_expr_view value)) result }
 {
-    let value = Box::into_inner(value);
     boxed_stmt(alloc, Stmt::Case { place, value })
 }
 
@@ -254,14 +257,11 @@ pub fn for_of(alloc: Global, place: u32, head: ForHead, body: Box<Stmt>) -> Resu
         condition,
         step,
     } = head;
-    let condition = unboxed(condition);
-    let step = unboxed_simple(step);
-    let stmt = Stmt::For {
-        place,
+    let head = tree::ForHead {
         first: Box::into_inner(first),
-        condition,
-        step,
-        body,
+        condition: unboxed(condition),
+        step: unboxed_simple(step),
     };
-    boxed_stmt(alloc, stmt)
+    let head = boxed(alloc, head)?;
+    boxed_stmt(alloc, Stmt::For { place, head, body })
 }

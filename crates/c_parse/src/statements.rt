@@ -12,8 +12,8 @@ ghost use Rattle.c_grammar.specs.inner.Reading.{simply, simple_of, condition, fi
 ghost use Rattle.c_parse.specs.inner.Parts.{behind, assigned, simple_first_at, short_first_at, for_condition, for_step, for_head, head_view, empty_at, break_at, continue_at, return_at, simple_stmt_at, block_view, item_at, item_row, case_at, default_at, entry_at, entry_row, otherwise};
 
 use crate::building::{
-    ForHead, after, assign, before, boxed_stmt, case_of, do_of, eval, first_declare, first_nothing,
-    first_simple, for_of, if_of, return_of, simple_of, switch_of, while_of,
+    ForHead, after, assign, before, boxed_stmt, case_of, declare_of, do_of, eval, first_declare,
+    first_nothing, first_simple, for_of, if_of, return_of, simple_of, switch_of, while_of,
 };
 use crate::declarations::declaration;
 use crate::parts::{marked, maybe_expr};
@@ -315,7 +315,7 @@ fn item(parser: &mut Parser<'_>, room: u32) -> Result<Box<Stmt>, Stop>
         return stmt(parser, room);
     }
     let declaration = declaration(parser, room)?;
-    boxed_stmt(parser.alloc, Stmt::Declare(declaration))
+    declare_of(parser.alloc, declaration)
 }
 
 /// `{ decl | stmt }`

@@ -144,27 +144,27 @@ for_first_view (firsts.Simple s) = trees.first_simple (simple_view s)
 for_first_view firsts.Nothing = trees.first_nothing
 
 -- what is behind the first branch of an if
-abbrev pub if_layer : ℕ → CodeExpr → trees.Stmt → Option (Box trees.Stmt Global) → trees.Stmt
-if_layer place condition then None = trees.if_then place (expr_view condition) then
-if_layer place condition then (Some otherwise) = trees.if_else place (expr_view condition) then otherwise.value
+abbrev pub if_layer : ℕ → Box CodeExpr Global → trees.Stmt → Option (Box trees.Stmt Global) → trees.Stmt
+if_layer place condition then None = trees.if_then place (boxed_expr_view condition) then
+if_layer place condition then (Some otherwise) = trees.if_else place (boxed_expr_view condition) then otherwise.value
 
 -- one layer of a statement, the statements in it seen already
 abbrev pub stmt_layer : Stmt-F trees.Stmt → trees.Stmt
 stmt_layer (Stmt-F.Block place items) = trees.block place (trees.stmts_of items.items)
-stmt_layer (Stmt-F.Declare d) = trees.declare (declaration_view d)
+stmt_layer (Stmt-F.Declare d) = trees.declare (declaration_view d.value)
 stmt_layer (Stmt-F.Empty place) = trees.empty place
 stmt_layer (Stmt-F.If place condition then otherwise) = if_layer place condition then.value otherwise
-stmt_layer (Stmt-F.While place condition body) = trees.while place (expr_view condition) body.value
-stmt_layer (Stmt-F.For place first condition step body) =
-    trees.for place (for_first_view first) (option_map expr_view condition) (option_map simple_view step) body.value
-stmt_layer (Stmt-F.DoWhile place body condition) = trees.do_while place body.value (expr_view condition)
-stmt_layer (Stmt-F.Switch place condition entries) = trees.switch place (expr_view condition) (trees.stmts_of entries.items)
-stmt_layer (Stmt-F.Case place value) = trees.case_label place (expr_view value)
+stmt_layer (Stmt-F.While place condition body) = trees.while place (boxed_expr_view condition) body.value
+stmt_layer (Stmt-F.For place head body) =
+    trees.for place (for_first_view head.value.first) (option_map expr_view head.value.condition) (option_map simple_view head.value.step) body.value
+stmt_layer (Stmt-F.DoWhile place body condition) = trees.do_while place body.value (boxed_expr_view condition)
+stmt_layer (Stmt-F.Switch place condition entries) = trees.switch place (boxed_expr_view condition) (trees.stmts_of entries.items)
+stmt_layer (Stmt-F.Case place value) = trees.case_label place (boxed_expr_view value)
 stmt_layer (Stmt-F.Default place) = trees.default_label place
 stmt_layer (Stmt-F.Break place) = trees.break place
 stmt_layer (Stmt-F.Continue place) = trees.continue place
-stmt_layer (Stmt-F.Return place value) = trees.return place (option_map expr_view value)
-stmt_layer (Stmt-F.Simple s) = trees.simple (simple_view s)
+stmt_layer (Stmt-F.Return place value) = trees.return place (option_map boxed_expr_view value)
+stmt_layer (Stmt-F.Simple s) = trees.simple (simple_view s.value)
 
 -- the statement that one of the code stands for
 abbrev pub stmt_view : CodeStmt → trees.Stmt

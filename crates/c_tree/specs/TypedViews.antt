@@ -145,8 +145,8 @@ abbrev mutual
   stmt_node_view stmts.Break = trees.break_
   stmt_node_view stmts.Continue = trees.continue_
   stmt_node_view (stmts.Return value) = trees.return_ (optional_expr_view value)
-  stmt_node_view (stmts.Assign left right) = trees.assign (expr_view left) (expr_view right)
-  stmt_node_view (stmts.Update left op right) = trees.update (expr_view left) op (expr_view right)
+  stmt_node_view (stmts.Assign left right) = trees.assign (boxed_expr_view left) (boxed_expr_view right)
+  stmt_node_view (stmts.Update left op right) = trees.update (boxed_expr_view left) op (boxed_expr_view right)
   stmt_node_view (stmts.Eval e) = trees.evaluate (expr_view e)
   stmt_node_view stmts.Empty = trees.empty
 

@@ -362,7 +362,16 @@ pub enum ForFirst {
     Nothing,
 }
 
-/// `stmt`, a `decl` of a body or a `label` of a switch, with the place of its first token.
+/// What stands between the brackets of a `for`: `( decl | [ simple ] ";" ) [ expr ] ";" [ simple ]`.
+#[derive(Drop)]
+pub struct ForHead {
+    pub first: ForFirst,
+    pub condition: Option<Expr>,
+    pub step: Option<Simple>,
+}
+
+/// `stmt`, a `decl` of a body or a `label` of a switch, with the place of its first token. What is large in one stands in a box, so that
+/// a row of small ones takes little memory.
 #[derive(Drop)]
 pub enum Stmt {
     /// `"{" { decl | stmt } "}"`
@@ -371,7 +380,7 @@ pub enum Stmt {
         items: Vec<Stmt>,
     },
     /// `decl`: only among the items of a body.
-    Declare(Declaration),
+    Declare(Box<Declaration>),
     /// `";"`
     Empty {
         place: u32,
@@ -379,40 +388,38 @@ pub enum Stmt {
     /// `"if" "(" expr ")" stmt [ "else" stmt ]`
     If {
         place: u32,
-        condition: Expr,
+        condition: Box<Expr>,
         then: Box<Stmt>,
         otherwise: Option<Box<Stmt>>,
     },
     /// `"while" "(" expr ")" stmt`
     While {
         place: u32,
-        condition: Expr,
+        condition: Box<Expr>,
         body: Box<Stmt>,
     },
     /// `"for" "(" ( decl | [ simple ] ";" ) [ expr ] ";" [ simple ] ")" stmt`
     For {
         place: u32,
-        first: ForFirst,
-        condition: Option<Expr>,
-        step: Option<Simple>,
+        head: Box<ForHead>,
         body: Box<Stmt>,
     },
     /// `"do" stmt "while" "(" expr ")" ";"`
     DoWhile {
         place: u32,
         body: Box<Stmt>,
-        condition: Expr,
+        condition: Box<Expr>,
     },
     /// `"switch" "(" expr ")" "{" { label | stmt } "}"`
     Switch {
         place: u32,
-        condition: Expr,
+        condition: Box<Expr>,
         entries: Vec<Stmt>,
     },
     /// `"case" expr ":"`: only among the entries of a switch.
     Case {
         place: u32,
-        value: Expr,
+        value: Box<Expr>,
     },
     /// `"default" ":"`: only among the entries of a switch.
     Default {
@@ -429,10 +436,10 @@ pub enum Stmt {
     /// `"return" [ expr ] ";"`
     Return {
         place: u32,
-        value: Option<Expr>,
+        value: Option<Box<Expr>>,
     },
     /// `simple ";"`
-    Simple(Simple),
+    Simple(Box<Simple>),
 }
 
 // ---- files (C11 6.9)

@@ -140,9 +140,9 @@ pub enum StmtNode {
     /// A `return`.
     Return(Option<Expr>),
     /// A simple assignment: the place on the left and the value on the right.
-    Assign(Expr, Expr),
+    Assign(Box<Expr>, Box<Expr>),
     /// A compound assignment, or `++` or `--`: the place, the operator and the operand.
-    Update(Expr, Op, Expr),
+    Update(Box<Expr>, Op, Box<Expr>),
     /// An expression whose value is dropped.
     Eval(Expr),
     /// Nothing.

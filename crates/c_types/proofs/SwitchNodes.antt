@@ -162,7 +162,7 @@ seen_so s t y is view none = ap is_label (sym (ap seen.stmt_view is) ∙ view) �
 
 -- a statement of the code that is no label is seen as none
 abbrev pub SeenNoLabel : Tree → Type 0
-SeenNoLabel s = ((place : ℕ) (value : CodeSource) → s ≡ codes.Case place value → ⊥) → ((place : ℕ) → s ≡ codes.Default place → ⊥) → is_label (seen.stmt_view s) ≡ false
+SeenNoLabel s = ((place : ℕ) (value : Box CodeSource Global) → s ≡ codes.Case place value → ⊥) → ((place : ℕ) → s ≡ codes.Default place → ⊥) → is_label (seen.stmt_view s) ≡ false
 
 layer_so : (s : Tree) (k : Stmt-F Tree) → roll-Stmt k ≡ s → SeenNoLabel s
 layer_so s (Stmt-F.Block place items) is no_case no_default = seen_so s (codes.Block place items) _ (sym (codes.rolls-Block place items) ∙ is) (block_is place items) refl
@@ -171,7 +171,7 @@ layer_so s (Stmt-F.Empty place) is no_case no_default = seen_so s (codes.Empty p
 layer_so s (Stmt-F.If place e b None) is no_case no_default = seen_so s (codes.If place e b None) _ (sym (codes.rolls-If place e b None) ∙ is) (if_then_is place e b) refl
 layer_so s (Stmt-F.If place e b (Some o)) is no_case no_default = seen_so s (codes.If place e b (Some o)) _ (sym (codes.rolls-If place e b (Some o)) ∙ is) (if_else_is place e b o) refl
 layer_so s (Stmt-F.While place e b) is no_case no_default = seen_so s (codes.While place e b) _ (sym (codes.rolls-While place e b) ∙ is) (while_is place e b) refl
-layer_so s (Stmt-F.For place first e step b) is no_case no_default = seen_so s (codes.For place first e step b) _ (sym (codes.rolls-For place first e step b) ∙ is) (for_is place first e step b) refl
+layer_so s (Stmt-F.For place h b) is no_case no_default = seen_so s (codes.For place h b) _ (sym (codes.rolls-For place h b) ∙ is) (for_is place h b) refl
 layer_so s (Stmt-F.DoWhile place b e) is no_case no_default = seen_so s (codes.DoWhile place b e) _ (sym (codes.rolls-DoWhile place b e) ∙ is) (do_is place b e) refl
 layer_so s (Stmt-F.Switch place e entries) is no_case no_default = seen_so s (codes.Switch place e entries) _ (sym (codes.rolls-Switch place e entries) ∙ is) (switch_is place e entries) refl
 layer_so s (Stmt-F.Case place e) is no_case no_default = absurd (no_case place e (sym is ∙ codes.rolls-Case place e))

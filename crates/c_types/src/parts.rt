@@ -105,9 +105,9 @@ fn returned(
     context: &mut Context<'_>,
     place: u32,
     t: &CType,
-    value: &Option<tree::Expr>,
+    value: &Option<Box<tree::Expr>>,
 ) -> Result<Stmt, CompileFault>
-    ensures { Tells stmt_view result context.new (returned place (type_view t.now) (option_map source.expr_view value.now) (context_view context.old)) }
+    ensures { Tells stmt_view result context.new (returned place (type_view t.now) (option_map source.boxed_expr_view value.now) (context_view context.old)) }
 {
     match value {
         Some(e) => returned_value(context, place, t, e),
@@ -208,9 +208,9 @@ pub(crate) fn return_of(
     context: &mut Context<'_>,
     t: &CType,
     place: u32,
-    value: &Option<tree::Expr>,
+    value: &Option<Box<tree::Expr>>,
 ) -> Result<Vec<Stmt>, CompileFault>
-    ensures { (j : forms.Jumps) → Tells (each stmt_view) result context.new (judged_stmt (type_view t.now) j (trees.return place (option_map source.expr_view value.now)) (context_view context.old)) }
+    ensures { (j : forms.Jumps) → Tells (each stmt_view) result context.new (judged_stmt (type_view t.now) j (trees.return place (option_map source.boxed_expr_view value.now)) (context_view context.old)) }
 {
     let s = returned(context, place, t, value)?;
     alone(context.alloc, s)

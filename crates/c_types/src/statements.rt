@@ -232,15 +232,21 @@ fn for_loop(
     context: &mut Context<'_>,
     t: &CType,
     place: u32,
-    head: &tree::ForFirst,
-    e: &Option<tree::Expr>,
-    last: &Option<tree::Simple>,
+    head: &tree::ForHead,
     s: &tree::Stmt,
 ) -> Result<Vec<Stmt>, CompileFault>
-    ensures { (j : forms.Jumps) → Tells (each stmt_view) result context.new (judged_stmt (type_view t.now) j (trees.for place (source.for_first_view head.now) (option_map source.expr_view e.now) (option_map source.simple_view last.now) (source.stmt_view s.now)) (context_view context.old)) }
+    ensures { (j : forms.Jumps) → Tells (each stmt_view) result context.new (judged_stmt (type_view t.now) j (trees.for place (source.for_first_view head.now.first) (option_map source.expr_view head.now.condition) (option_map source.simple_view head.now.step) (source.stmt_view s.now)) (context_view context.old)) }
 {
     context.enter(IndexMap::new(context.alloc))?;
-    let whole = for_inside(context, t, place, head, e, last, s);
+    let whole = for_inside(
+        context,
+        t,
+        place,
+        &head.first,
+        &head.condition,
+        &head.step,
+        s,
+    );
     context.leave();
     let whole = whole?;
     alone(context.alloc, Box::into_inner(whole))
@@ -275,13 +281,7 @@ fn stmt(
             condition,
             body,
         } => while_loop(context, t, *place, condition, body),
-        tree::Stmt::For {
-            place,
-            first,
-            condition,
-            step,
-            body,
-        } => for_loop(context, t, *place, first, condition, step, body),
+        tree::Stmt::For { place, head, body } => for_loop(context, t, *place, head, body),
         tree::Stmt::DoWhile {
             place,
             body,

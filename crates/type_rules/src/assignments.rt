@@ -46,7 +46,7 @@ fn assigned(
     let right = fitted(context.alloc, place, &left.ty, right)?;
     Ok(Stmt {
         place,
-        node: StmtNode::Assign(Box::into_inner(left), Box::into_inner(right)),
+        node: StmtNode::Assign(left, right),
     })
 }
 
@@ -102,7 +102,7 @@ fn updated(
     let right = operand_for(context.alloc, &left.ty, right)?;
     Ok(Stmt {
         place,
-        node: StmtNode::Update(Box::into_inner(left), op, Box::into_inner(right)),
+        node: StmtNode::Update(left, op, right),
     })
 }
 

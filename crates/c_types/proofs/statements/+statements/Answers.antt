@@ -3,6 +3,7 @@ use Rattle.std.specs.Option.{option_map}
 use Rattle.std.specs.Prelude.{Box, Vec}
 use Rattle.std.specs.declared.alloc.Global.{Global}
 use Rattle.c_tree.specs.declared.typed.Expr.{Expr as CodeExpr}
+use Rattle.c_tree.specs.declared.syntax.Expr.{Expr as CodeSource}
 use Rattle.c_tree.specs.declared.typed.Stmt.{Stmt as CodeStmt}
 use Rattle.c_tree.specs.Syntax as trees
 use Rattle.c_tree.specs.Syntax.{stmts_of}
@@ -149,14 +150,14 @@ for_inside-returns t c =
 pub for_loop-returns-in_err-enter : goal.for_loop-returns-in_err-enter
 for_loop-returns-in_err-enter t c = λ l.
     memory_passes (each stmt_view) c.from_residual.result c.in_err-enter.field-0.0 c.enter.new.self
-    (judged_stmt (type_view c.args.t.now) l (trees.for c.args.place (source.for_first_view c.args.head.now) (option_map source.expr_view c.args.e.now) (option_map source.simple_view c.args.last.now) (source.stmt_view c.args.s.now)) (context_view c.args.context.now))
+    (judged_stmt (type_view c.args.t.now) l (trees.for c.args.place (source.for_first_view c.args.head.now.first) (option_map source.expr_view c.args.head.now.condition) (option_map source.simple_view c.args.head.now.step) (source.stmt_view c.args.s.now)) (context_view c.args.context.now))
     c.in_err-enter.ensures.memory c.from_residual.ensures.1
 
 pub for_loop-returns-in_err-whole : goal.for_loop-returns-in_err-whole
 for_loop-returns-in_err-whole t c = λ l.
-    let first = source.for_first_view c.args.head.now in
-    let e = option_map source.expr_view c.args.e.now in
-    let last = option_map source.simple_view c.args.last.now in
+    let first = source.for_first_view c.args.head.now.first in
+    let e = option_map source.expr_view c.args.head.now.condition in
+    let last = option_map source.simple_view c.args.head.now.step in
     let s = source.stmt_view c.args.s.now in
     let r = type_view c.args.t.now in
     let inside = for_of c.args.place (judged_first c.args.place first) (judged_condition c.args.place e) (judged_step c.args.place last) (one_of (judged_stmt r in_loop s)) in
@@ -168,9 +169,9 @@ for_loop-returns-in_err-whole t c = λ l.
 
 pub for_loop-returns : goal.for_loop-returns
 for_loop-returns t c = λ l.
-    let first = source.for_first_view c.args.head.now in
-    let e = option_map source.expr_view c.args.e.now in
-    let last = option_map source.simple_view c.args.last.now in
+    let first = source.for_first_view c.args.head.now.first in
+    let e = option_map source.expr_view c.args.head.now.condition in
+    let last = option_map source.simple_view c.args.head.now.step in
     let s = source.stmt_view c.args.s.now in
     let r = type_view c.args.t.now in
     let inside = for_of c.args.place (judged_first c.args.place first) (judged_condition c.args.place e) (judged_step c.args.place last) (one_of (judged_stmt r in_loop s)) in
@@ -244,15 +245,15 @@ entries-returns t c =
 -- an entry of a switch
 pub entry-returns-in_err-value-in-Case : goal.entry-returns-in_err-value-in-Case
 entry-returns-in_err-value-in-Case t c =
-    case_err (source.stmt_view c.args.s.now) c.in-Case.place (source.expr_view c.in-Case.value) c.args.of (entries_view c.args.before) (judged_stmt (type_view c.args.t.now) (jumps_view c.args.jumps) (source.stmt_view c.args.s.now)) (context_view c.args.context.now)
+    case_err (source.stmt_view c.args.s.now) c.in-Case.place (source.expr_view c.deref.result.now) c.args.of (entries_view c.args.before) (judged_stmt (type_view c.args.t.now) (jumps_view c.args.jumps) (source.stmt_view c.args.s.now)) (context_view c.args.context.now)
     c.constant.new.context c.constant.result c.in_err-value-in-Case.field-0.0 c.from_residual.result
-    (ap source.stmt_view c.in-Case.is ∙ case_is c.in-Case.place c.in-Case.value) c.constant.ensures c.in_err-value-in-Case.was c.from_residual.ensures.1
+    (ap source.stmt_view c.in-Case.is ∙ case_is c.in-Case.place c.in-Case.value ∙ ap (λ (y : CodeSource). trees.case_label c.in-Case.place (source.expr_view y)) (sym c.deref.ensures)) c.constant.ensures c.in_err-value-in-Case.was c.from_residual.ensures.1
 
 pub entry-returns-in_ok-value-in-Case : goal.entry-returns-in_ok-value-in-Case
 entry-returns-in_ok-value-in-Case t c =
-    case_ok (source.stmt_view c.args.s.now) c.in-Case.place (source.expr_view c.in-Case.value) c.args.of (entries_view c.args.before) (judged_stmt (type_view c.args.t.now) (jumps_view c.args.jumps) (source.stmt_view c.args.s.now)) (context_view c.args.context.now)
+    case_ok (source.stmt_view c.args.s.now) c.in-Case.place (source.expr_view c.deref.result.now) c.args.of (entries_view c.args.before) (judged_stmt (type_view c.args.t.now) (jumps_view c.args.jumps) (source.stmt_view c.args.s.now)) (context_view c.args.context.now)
     c.constant.new.context c.constant.result c.in_ok-value-in-Case.value c.case.result
-    (ap source.stmt_view c.in-Case.is ∙ case_is c.in-Case.place c.in-Case.value) c.constant.ensures c.in_ok-value-in-Case.was c.case.ensures
+    (ap source.stmt_view c.in-Case.is ∙ case_is c.in-Case.place c.in-Case.value ∙ ap (λ (y : CodeSource). trees.case_label c.in-Case.place (source.expr_view y)) (sym c.deref.ensures)) c.constant.ensures c.in_ok-value-in-Case.was c.case.ensures
 
 pub entry-returns-in-Default : goal.entry-returns-in-Default
 entry-returns-in-Default t c =
@@ -278,7 +279,7 @@ stmt-returns-in-Block t c =
 
 pub stmt-returns-in-Declare : goal.stmt-returns-in-Declare
 stmt-returns-in-Declare t c =
-    arms.declare_told c.args.s.now c.in-Declare.d (type_view c.args.t.now) (jumps_view c.args.jumps) (context_view c.args.context.now) c.declaration.new.context c.declaration.result c.in-Declare.is c.declaration.ensures
+    arms.declare_told c.args.s.now c.in-Declare.d c.deref-in-Declare.result.now (type_view c.args.t.now) (jumps_view c.args.jumps) (context_view c.args.context.now) c.declaration.new.context c.declaration.result c.in-Declare.is c.deref-in-Declare.ensures c.declaration.ensures
 
 pub stmt-returns-in-Empty : goal.stmt-returns-in-Empty
 stmt-returns-in-Empty t c =
@@ -286,33 +287,33 @@ stmt-returns-in-Empty t c =
 
 pub stmt-returns-in-None : goal.stmt-returns-in-None
 stmt-returns-in-None t c =
-    arms.if_then_told c.args.s.now c.in-If.place c.in-If.condition c.in-If.then c.in-If.otherwise c.deref-in-None.result.now (type_view c.args.t.now) (jumps_view c.args.jumps) (context_view c.args.context.now) c.if_then.new.context c.if_then.result
-    c.in-If.is c.in-None.is c.deref-in-None.ensures c.if_then.ensures
+    arms.if_then_told c.args.s.now c.in-If.place c.in-If.condition c.in-If.then c.in-If.otherwise c.deref-in-None.result.now c.deref-in-None-2.result.now (type_view c.args.t.now) (jumps_view c.args.jumps) (context_view c.args.context.now) c.if_then.new.context c.if_then.result
+    c.in-If.is c.in-None.is c.deref-in-None.ensures c.deref-in-None-2.ensures c.if_then.ensures
 
 pub stmt-returns-in-Some : goal.stmt-returns-in-Some
 stmt-returns-in-Some t c =
-    arms.if_else_told c.args.s.now c.in-If.place c.in-If.condition c.in-If.then c.in-If.otherwise c.in-Some.other c.deref-in-Some.result.now c.deref-in-Some-2.result.now (type_view c.args.t.now) (jumps_view c.args.jumps) (context_view c.args.context.now) c.if_else.new.context c.if_else.result
-    c.in-If.is c.in-Some.is c.deref-in-Some.ensures c.deref-in-Some-2.ensures c.if_else.ensures
+    arms.if_else_told c.args.s.now c.in-If.place c.in-If.condition c.in-If.then c.in-If.otherwise c.in-Some.other c.deref-in-Some.result.now c.deref-in-Some-2.result.now c.deref-in-Some-3.result.now (type_view c.args.t.now) (jumps_view c.args.jumps) (context_view c.args.context.now) c.if_else.new.context c.if_else.result
+    c.in-If.is c.in-Some.is c.deref-in-Some.ensures c.deref-in-Some-2.ensures c.deref-in-Some-3.ensures c.if_else.ensures
 
 pub stmt-returns-in-While : goal.stmt-returns-in-While
 stmt-returns-in-While t c =
-    arms.while_told c.args.s.now c.in-While.place c.in-While.condition c.in-While.body c.deref-in-While.result.now (type_view c.args.t.now) (jumps_view c.args.jumps) (context_view c.args.context.now) c.while_loop.new.context c.while_loop.result
-    c.in-While.is c.deref-in-While.ensures (c.while_loop.ensures (jumps_view c.args.jumps))
+    arms.while_told c.args.s.now c.in-While.place c.in-While.condition c.in-While.body c.deref-in-While.result.now c.deref-in-While-2.result.now (type_view c.args.t.now) (jumps_view c.args.jumps) (context_view c.args.context.now) c.while_loop.new.context c.while_loop.result
+    c.in-While.is c.deref-in-While.ensures c.deref-in-While-2.ensures (c.while_loop.ensures (jumps_view c.args.jumps))
 
 pub stmt-returns-in-For : goal.stmt-returns-in-For
 stmt-returns-in-For t c =
-    arms.for_told c.args.s.now c.in-For.place c.in-For.first c.in-For.condition c.in-For.step c.in-For.body c.deref-in-For.result.now (type_view c.args.t.now) (jumps_view c.args.jumps) (context_view c.args.context.now) c.for_loop.new.context c.for_loop.result
-    c.in-For.is c.deref-in-For.ensures (c.for_loop.ensures (jumps_view c.args.jumps))
+    arms.for_told c.args.s.now c.in-For.place c.in-For.head c.in-For.body c.deref-in-For.result.now c.deref-in-For-2.result.now (type_view c.args.t.now) (jumps_view c.args.jumps) (context_view c.args.context.now) c.for_loop.new.context c.for_loop.result
+    c.in-For.is c.deref-in-For.ensures c.deref-in-For-2.ensures (c.for_loop.ensures (jumps_view c.args.jumps))
 
 pub stmt-returns-in-DoWhile : goal.stmt-returns-in-DoWhile
 stmt-returns-in-DoWhile t c =
-    arms.do_told c.args.s.now c.in-DoWhile.place c.in-DoWhile.body c.in-DoWhile.condition c.deref-in-DoWhile.result.now (type_view c.args.t.now) (jumps_view c.args.jumps) (context_view c.args.context.now) c.do_loop.new.context c.do_loop.result
-    c.in-DoWhile.is c.deref-in-DoWhile.ensures (c.do_loop.ensures (jumps_view c.args.jumps))
+    arms.do_told c.args.s.now c.in-DoWhile.place c.in-DoWhile.body c.in-DoWhile.condition c.deref-in-DoWhile.result.now c.deref-in-DoWhile-2.result.now (type_view c.args.t.now) (jumps_view c.args.jumps) (context_view c.args.context.now) c.do_loop.new.context c.do_loop.result
+    c.in-DoWhile.is c.deref-in-DoWhile.ensures c.deref-in-DoWhile-2.ensures (c.do_loop.ensures (jumps_view c.args.jumps))
 
 pub stmt-returns-in-Switch : goal.stmt-returns-in-Switch
 stmt-returns-in-Switch t c =
-    arms.switch_told c.args.s.now c.in-Switch.place c.in-Switch.condition c.in-Switch.entries c.deref-in-Switch.result.now (type_view c.args.t.now) (jumps_view c.args.jumps) (context_view c.args.context.now) c.switch.new.context c.switch.result
-    c.in-Switch.is c.deref-in-Switch.ensures.value c.switch.ensures
+    arms.switch_told c.args.s.now c.in-Switch.place c.in-Switch.condition c.in-Switch.entries c.deref-in-Switch.result.now c.deref-in-Switch-2.result.now (type_view c.args.t.now) (jumps_view c.args.jumps) (context_view c.args.context.now) c.switch.new.context c.switch.result
+    c.in-Switch.is c.deref-in-Switch.ensures c.deref-in-Switch-2.ensures.value c.switch.ensures
 
 pub stmt-returns-in-Case : goal.stmt-returns-in-Case
 stmt-returns-in-Case t c =
@@ -335,7 +336,7 @@ stmt-returns-in-Return t c =
 
 pub stmt-returns-in-Simple : goal.stmt-returns-in-Simple
 stmt-returns-in-Simple t c =
-    arms.simple_told c.args.s.now c.in-Simple.s (type_view c.args.t.now) (jumps_view c.args.jumps) (context_view c.args.context.now) c.first_simple.new.context c.first_simple.result c.in-Simple.is c.first_simple.ensures
+    arms.simple_told c.args.s.now c.in-Simple.s c.deref-in-Simple.result.now (type_view c.args.t.now) (jumps_view c.args.jumps) (context_view c.args.context.now) c.first_simple.new.context c.first_simple.result c.in-Simple.is c.deref-in-Simple.ensures c.first_simple.ensures
 
 -- the items of a body
 pub stmts-items-init : goal.stmts-items-init
