@@ -43,7 +43,12 @@ fn add_stop(alloc: Global, place: u32, out: &mut Vec<Node>) -> Result<(), NoMemo
     add(out, node(place, NodeKind::Safepoint(Vec::new(alloc))))
 }
 
-fn add_call(alloc: Global, place: u32, c: Box<CallNode>, out: &mut Vec<Node>) -> Result<(), NoMemory>
+fn add_call(
+    alloc: Global,
+    place: u32,
+    c: Box<CallNode>,
+    out: &mut Vec<Node>,
+) -> Result<(), NoMemory>
     ensures { OnOk result ((rest : Nodes) → followed out.new.items rest ≡ followed out.old.items (seats (cleared_in (Rattle.struct_ir.specs.Nodes.plain place (Rattle.struct_ir.specs.Nodes.call (call_view c.value)))) rest)) }
 {
     let bare = Box::new(alloc, clear_call(alloc, Box::into_inner(c)))?;
@@ -52,7 +57,12 @@ fn add_call(alloc: Global, place: u32, c: Box<CallNode>, out: &mut Vec<Node>) ->
     add_stop(alloc, place, out)
 }
 
-fn add_step(alloc: Global, place: u32, s: Box<StepNode>, out: &mut Vec<Node>) -> Result<(), NoMemory>
+fn add_step(
+    alloc: Global,
+    place: u32,
+    s: Box<StepNode>,
+    out: &mut Vec<Node>,
+) -> Result<(), NoMemory>
     ensures { OnOk result ((rest : Nodes) → followed out.new.items rest ≡ followed out.old.items (seats (cleared_in (Rattle.struct_ir.specs.Nodes.plain place (Rattle.struct_ir.specs.Nodes.step (step_view s.value)))) rest)) }
 {
     let bare = Box::new(alloc, clear_step(alloc, Box::into_inner(s)))?;
