@@ -9,7 +9,7 @@ ghost use Rattle.lower_forms.specs.Forms.{sets_int, choose_nodes, begin_nodes, l
 
 use ak_words::{IntType, NoMemory, Num, Op};
 use c_tree::typed::Label;
-use lower_expressions::nodes::{after, branches, one_int, sets};
+use lower_expressions::nodes::{after, branches, one_int, sets, sets_constant};
 use std::alloc::Global;
 use struct_ir::{Calc, Node};
 
@@ -18,7 +18,7 @@ pub fn sets_number(out: &mut Vec<Node>, place: u32, to: u32, number: u32) -> Res
     ensures { OnOk result ((rest : Nodes) → followed out.new.items rest ≡ followed out.old.items (sets_int place to number rest)) }
 {
     match i32::try_from(number) {
-        Ok(value) => sets(out, place, to, Calc::number(Num::int(value))),
+        Ok(value) => sets_constant(out, place, to, Num::int(value)),
         Err(_) => Err(NoMemory),
     }
 }
@@ -88,7 +88,7 @@ fn compares(
         Some(value) => {
             let flag = after(chosen)?;
             let free = after(flag)?;
-            sets(out, place, flag, Calc::number(value))?;
+            sets_constant(out, place, flag, value)?;
             sets(out, place, flag, Calc::Apply(Op::Eq, value.ty, free, flag))?;
             let one = one_number(alloc, place, chosen, small(number)?)?;
             branches(out, place, flag, one, Vec::new(alloc))

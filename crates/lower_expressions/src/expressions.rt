@@ -11,7 +11,7 @@ ghost use Rattle.c_tree.specs.Typed.{exprs_of};
 
 use crate::forms::{called, calls_with, lib_nodes, loads, local_place, local_value, member_nodes};
 use crate::frame::{Frame, Reach};
-use crate::nodes::{after, branches, one_int, sets, sets_truth};
+use crate::nodes::{after, branches, one_int, sets, sets_constant, sets_truth};
 use crate::operators::{operation, unary_nodes};
 use crate::types::is_void;
 use ak_words::NoMemory;
@@ -30,7 +30,7 @@ pub fn expr(alloc: Global, e: &Expr, f: &Frame, t: u32, out: &mut Vec<Node>) -> 
     ensures { OnOk result ((rest : Nodes) → followed out.new.items rest ≡ followed out.old.items (expr_nodes (frame_view f.now) (expr_view e.now) t rest)) }
 {
     match &e.node {
-        ExprNode::Num(n) => sets(out, e.place, t, Calc::number(*n)),
+        ExprNode::Num(n) => sets_constant(out, e.place, t, *n),
         ExprNode::Null => sets(out, e.place, t, Calc::Null),
         ExprNode::Local(n) => local_value(alloc, out, e.place, &e.ty, *n, t, f.home(*n)),
         ExprNode::Literal(_) | ExprNode::Global(_) | ExprNode::Deref(_) | ExprNode::Member(..) =>

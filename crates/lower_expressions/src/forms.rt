@@ -13,7 +13,7 @@ ghost use Rattle.lower_forms.specs.Forms.{sized_copy};
 ghost use Rattle.lower_expressions.specs.FrameViews.{reach_view};
 
 use crate::frame::{Reach, at_temp};
-use crate::nodes::{acts, after, calls, sets, sets_int, sets_long};
+use crate::nodes::{acts, after, calls, sets, sets_constant, sets_int, sets_long};
 use crate::types::{changed_number, is_number, number_type, unsigned_of};
 use ak_words::{IntType, NoMemory, Num, Op};
 use block_store::{Access, Change};
@@ -391,7 +391,7 @@ fn opposite_nodes(out: &mut Vec<Node>, place: u32, ty: IntType, u: u32) -> Resul
     let unsigned = unsigned_of(ty);
     let zero = after(u)?;
     sets(out, place, u, Calc::Convert(unsigned, u))?;
-    sets(out, place, zero, Calc::number(unsigned_zero(ty)))?;
+    sets_constant(out, place, zero, unsigned_zero(ty))?;
     sets(out, place, u, Calc::Apply(Op::Sub, unsigned, zero, u))?;
     sets(out, place, u, Calc::Convert(ty, u))
 }

@@ -2,7 +2,7 @@
 
 ghost use Rattle.std.specs.Prelude.{◌≡◌, OnOk, None, map, suc, pos, IfOk};
 ghost use Rattle.ak_words.specs.IntType.{int, unsigned_long};
-ghost use Rattle.struct_ir.specs.Nodes.{Nodes, no_nodes, more_nodes, loop};
+ghost use Rattle.struct_ir.specs.Nodes.{Nodes, constant, no_nodes, more_nodes, loop};
 ghost use Rattle.struct_ir.specs.Views.{calc_view, action_view, place_view, kind_view, nodes_view, followed};
 ghost use Rattle.lower_forms.specs.Forms.{sets, acts, calls, branches, sets_int, sets_long, sets_truth, begins, ends};
 
@@ -35,6 +35,13 @@ pub fn sets(out: &mut Vec<Node>, place: u32, to: u32, calc: Calc) -> Result<(), 
     ensures { OnOk result ((rest : Nodes) → followed out.new.items rest ≡ followed out.old.items (sets place to (calc_view calc) rest)) }
 {
     put(out, place, NodeKind::Set(to, calc))
+}
+
+/// A register is set to a number.
+pub fn sets_constant(out: &mut Vec<Node>, place: u32, to: u32, n: Num) -> Result<(), NoMemory>
+    ensures { OnOk result ((rest : Nodes) → followed out.new.items rest ≡ followed out.old.items (sets place to (constant n.ty n.value) rest)) }
+{
+    sets(out, place, to, Calc::number(n))
 }
 
 /// An action is done.
@@ -130,14 +137,14 @@ fn long_number(value: u32) -> Num
 pub fn sets_int(out: &mut Vec<Node>, place: u32, to: u32, value: u8) -> Result<(), NoMemory>
     ensures { OnOk result ((rest : Nodes) → followed out.new.items rest ≡ followed out.old.items (sets_int place to value rest)) }
 {
-    sets(out, place, to, Calc::number(small_int(value)))
+    sets_constant(out, place, to, small_int(value))
 }
 
 /// A constant of type `unsigned long`.
 pub fn sets_long(out: &mut Vec<Node>, place: u32, to: u32, value: u32) -> Result<(), NoMemory>
     ensures { OnOk result ((rest : Nodes) → followed out.new.items rest ≡ followed out.old.items (sets_long place to value rest)) }
 {
-    sets(out, place, to, Calc::number(long_number(value)))
+    sets_constant(out, place, to, long_number(value))
 }
 
 /// One of two constants, as what a register holds counts as true or doesn't.

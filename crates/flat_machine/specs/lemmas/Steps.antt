@@ -1,5 +1,5 @@
 -- The step, the Look or the return before which a thread stands, from what stands there.
-use Rattle.std.proofs.Common.{◌≡◌, ℕ, ◌+◌, ◌*◌, ◌<◌, Bool, true, false, cond, ◌&&◌, ◌||◌, ◌==◌, not, eqb, ◌≢◌, List, [], ◌∷◌, length, map, get_or, Option, Some, None, refl, ap, sym, ◌∙◌, subst, arith}
+use Rattle.std.proofs.Common.{◌≡◌, ℕ, ◌+◌, ◌*◌, ◌<◌, Bool, true, false, cond, ◌&&◌, ◌||◌, ◌==◌, not, eqb, ◌≢◌, List, [], ◌∷◌, length, map, get_or, Option, Some, None, Box, Global, refl, ap, sym, ◌∙◌, subst, arith}
 use Rattle.std.specs.Prelude.{slice_get, slice_index_or, slice_set, is_none, nat_lt}
 use Rattle.std.proofs.lemmas.Bool.{and_parts, eqb-true, ltb-true}
 use Rattle.struct_ir.specs.declared.code.StepNode.{StepNode}
@@ -584,7 +584,7 @@ no_spent false e = absurd cc
 
 -- nothing else is stopped before
 pub stops_at_these : (x : Image Spot) (most ends : ℕ) (t : Thread Spot Words) (i : CodeInstr) → stop_before x most ends t (before_here t.callers (instr_here (Some (instr_view i)))) ≡ Some AtStep
-    → ((slot base : ℕ) → i.kind ≢ kinds.Look slot base) → ((temp : Option ℕ) → i.kind ≢ kinds.Leave temp) → ((node : StepNode) → i.kind ≢ kinds.Step node) → ⊥
+    → ((slot base : ℕ) → i.kind ≢ kinds.Look slot base) → ((temp : Option ℕ) → i.kind ≢ kinds.Leave temp) → ((node : Box StepNode Global) → i.kind ≢ kinds.Step node) → ⊥
 stops_at_these x most ends t i e no_look no_leave no_step = by i.kind refl e where
   by : (k : InstrKind) → i.kind ≡ k → stop_before x most ends t (before_here t.callers (instr_here (Some (instr_kind_view i.place k)))) ≡ Some AtStep → ⊥
   by (kinds.Set to calc) is e = absurd cc
@@ -604,19 +604,19 @@ pub all_done : (code : LinearCode) (old new : Shared) (c behind : Context) (turn
 all_done code old new c behind turned h = record { shared = h.shared; context = h.context; stage = h.stage; turned_ = h.turned_ }
 
 -- a step is done
-pub step_is_done : (code : LinearCode) (old new : Shared) (c behind : Context) (turned : Turned) (s : Stands code c) (i : CodeInstr) (node : StepNode) (r : Done) → i.kind ≡ kinds.Step node
+pub step_is_done : (code : LinearCode) (old new : Shared) (c behind : Context) (turned : Turned) (s : Stands code c) (i : CodeInstr) (node : Box StepNode Global) (r : Done) → i.kind ≡ kinds.Step node
     → slice_get (instrs_of code.funcs (top_of c).at.function) (top_of c).at.index ≡ Some (instr_view i) → c.wait ≡ waits_at (own_image code) c.stage
-    → Does old new r (done_at (image_of code old) c.number old.memory i.place (step_view node) (top_of c).own) → Went r (done_turned (image_of code old) old.memory (choice_at (image_of code old) c.number old.memory i.place (step_view node) (top_of c).own) (action_view node.action))
-    → WaitsFor r (action_waits (action_view node.action) (map (target_of (top_of c).own) (map place_view node.places.items)) (map (word_at (top_of c).own) node.temps.items)) → IsSettled (step_view node) r c behind turned → StepIsDone code old new c behind turned
+    → Does old new r (done_at (image_of code old) c.number old.memory i.place (step_view node.value) (top_of c).own) → Went r (done_turned (image_of code old) old.memory (choice_at (image_of code old) c.number old.memory i.place (step_view node.value) (top_of c).own) (action_view node.value.action))
+    → WaitsFor r (action_waits (action_view node.value.action) (map (target_of (top_of c).own) (map place_view node.value.places.items)) (map (word_at (top_of c).own) node.value.temps.items)) → IsSettled (step_view node.value) r c behind turned → StepIsDone code old new c behind turned
 step_is_done code old new c behind turned s i node r is at wait d told waits_for settled =
     let x : Image Spot = image_of code old in
-    let h : (linear code.funcs).here s.t.top.at ≡ does i.place (step (step_view node)) = here_at code c s (instr_view i) at ∙ ap (λ (k : InstrKind). instr_here (Some (instr_kind_view i.place k))) is in
+    let h : (linear code.funcs).here s.t.top.at ≡ does i.place (step (step_view node.value)) = here_at code c s (instr_view i) at ∙ ap (λ (k : InstrKind). instr_here (Some (instr_kind_view i.place k))) is in
     let next : (linear code.funcs).next s.t.top.at true ≡ spot_behind s.t.top.at =
     next_at code c s (instr_view i) at ∙ ap (λ (k : InstrKind). record { function = s.t.top.at.function; index = instr_next s.t.top.at.index (Some (instr_kind_view i.place k)) true }) is in
-    all_done code old new c behind turned (step_comes x (own_image code) old new c behind turned s.stage i.place (step_view node) r s.is s.inside s.t (s.t_is x) h next h wait
-    (subst (λ (p : Point Spot Words). Does old new r (done_at x c.number old.memory i.place (step_view node) p.own)) s.top_is d)
-    (subst (λ (p : Point Spot Words). Went r (done_turned x old.memory (choice_at x c.number old.memory i.place (step_view node) p.own) (action_view node.action))) s.top_is told)
-    (subst (λ (p : Point Spot Words). WaitsFor r (action_waits (action_view node.action) (map (target_of p.own) (map place_view node.places.items)) (map (word_at p.own) node.temps.items))) s.top_is waits_for)
+    all_done code old new c behind turned (step_comes x (own_image code) old new c behind turned s.stage i.place (step_view node.value) r s.is s.inside s.t (s.t_is x) h next h wait
+    (subst (λ (p : Point Spot Words). Does old new r (done_at x c.number old.memory i.place (step_view node.value) p.own)) s.top_is d)
+    (subst (λ (p : Point Spot Words). Went r (done_turned x old.memory (choice_at x c.number old.memory i.place (step_view node.value) p.own) (action_view node.value.action))) s.top_is told)
+    (subst (λ (p : Point Spot Words). WaitsFor r (action_waits (action_view node.value.action) (map (target_of p.own) (map place_view node.value.places.items)) (map (word_at p.own) node.value.temps.items))) s.top_is waits_for)
     settled)
 
 -- a first function returns

@@ -3,7 +3,7 @@ use Rattle.code_save.proofs.Writing.{nothing_wrote}
 use Rattle.code_save.proofs.calcs.put_fields.Goals as goal
 
 pub returns-in-Num : goal.returns-in-Num
-returns-in-Num c = rw c.in-Num.is c.put_number.ensures
+returns-in-Num c = rw c.in-Num.is (rw c.from_bits.ensures.value at c.put_number.ensures)
 
 pub returns-in-Global : goal.returns-in-Global
 returns-in-Global c = rw c.in-Global.is c.put_u32.ensures

@@ -1,5 +1,7 @@
-use Rattle.std.proofs.Common.{◌<◌, ◌-◌, true, Ok, sym, ap, arith}
+use Rattle.std.proofs.Common.{◌<◌, ◌-◌, true, Ok, sym, ap, ◌∙◌, arith}
 use Rattle.formats.specs.Formats.{u32, list}
+use Rattle.struct_ir.specs.declared.code.CallNode.{CallNode}
+use Rattle.struct_ir.specs.declared.code.StepNode.{StepNode}
 use Rattle.struct_ir.specs.Nodes.{set, call, step, look, safepoint, begin_object, end_object, plain, if_, loop, break_, next_, ret}
 use Rattle.struct_ir.specs.Views.{calc_view, call_view, step_view, kind_view, node_view, nodes_view}
 use Rattle.struct_ir.proofs.Views.{if_is, loop_is}
@@ -39,13 +41,13 @@ pub put_fields-returns-in-Set : goal.put_fields-returns-in-Set
 put_fields-returns-in-Set t c = fields_of c.args.levels (node_view c.args.n.now) (plain c.args.n.now.place (set c.in-Set.to (calc_view c.in-Set.calc))) c.put_set.result c.args.out.now c.put_set.new.out (ap (λ k. kind_view c.args.n.now.place k) c.in-Set.is) c.put_set.ensures
 
 pub put_fields-returns-in-Call : goal.put_fields-returns-in-Call
-put_fields-returns-in-Call t c = fields_of c.args.levels (node_view c.args.n.now) (plain c.args.n.now.place (call (call_view c.in-Call.call))) c.put_call.result c.args.out.now c.put_call.new.out (ap (λ k. kind_view c.args.n.now.place k) c.in-Call.is) c.put_call.ensures
+put_fields-returns-in-Call t c = fields_of c.args.levels (node_view c.args.n.now) (plain c.args.n.now.place (call (call_view c.deref-in-Call.result.now))) c.put_call.result c.args.out.now c.put_call.new.out (ap (λ k. kind_view c.args.n.now.place k) c.in-Call.is ∙ ap (λ (x : CallNode). plain c.args.n.now.place (call (call_view x))) (sym c.deref-in-Call.ensures)) c.put_call.ensures
 
 pub put_fields-returns-in-Ret : goal.put_fields-returns-in-Ret
 put_fields-returns-in-Ret t c = fields_of c.args.levels (node_view c.args.n.now) (ret c.args.n.now.place c.in-Ret.temp) c.put_option.result c.args.out.now c.put_option.new.out (ap (λ k. kind_view c.args.n.now.place k) c.in-Ret.is) c.put_option.ensures
 
 pub put_fields-returns-in-Step : goal.put_fields-returns-in-Step
-put_fields-returns-in-Step t c = fields_of c.args.levels (node_view c.args.n.now) (plain c.args.n.now.place (step (step_view c.in-Step.step))) c.put_step.result c.args.out.now c.put_step.new.out (ap (λ k. kind_view c.args.n.now.place k) c.in-Step.is) c.put_step.ensures
+put_fields-returns-in-Step t c = fields_of c.args.levels (node_view c.args.n.now) (plain c.args.n.now.place (step (step_view c.deref-in-Step.result.now))) c.put_step.result c.args.out.now c.put_step.new.out (ap (λ k. kind_view c.args.n.now.place k) c.in-Step.is ∙ ap (λ (x : StepNode). plain c.args.n.now.place (step (step_view x))) (sym c.deref-in-Step.ensures)) c.put_step.ensures
 
 pub put_fields-returns-in-Look : goal.put_fields-returns-in-Look
 put_fields-returns-in-Look t c = fields_of c.args.levels (node_view c.args.n.now) (plain c.args.n.now.place (look c.in-Look.slot c.in-Look.base)) c.put_two.result c.args.out.now c.put_two.new.out (ap (λ k. kind_view c.args.n.now.place k) c.in-Look.is) c.put_two.ensures

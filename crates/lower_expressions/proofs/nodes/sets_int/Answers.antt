@@ -7,5 +7,5 @@ use Rattle.lower_expressions.proofs.nodes.sets_int.Goals as goal
 
 pub returns : goal.returns
 returns c =
-    on_ok_weaker c.sets.result (λ h rest. h rest
-    ∙ (λ i. followed c.args.out.now.items (sets c.args.place c.args.to (constant (c.small_int.ensures.ty i) (c.small_int.ensures.value i)) rest))) c.sets.ensures
+    on_ok_weaker c.sets_constant.result (λ h rest. h rest
+    ∙ (λ i. followed c.args.out.now.items (sets c.args.place c.args.to (constant (c.small_int.ensures.ty i) (c.small_int.ensures.value i)) rest))) c.sets_constant.ensures

@@ -7,5 +7,5 @@ use Rattle.lower_expressions.proofs.nodes.sets_long.Goals as goal
 
 pub returns : goal.returns
 returns c =
-    on_ok_weaker c.sets.result (λ h rest. h rest
-    ∙ (λ i. followed c.args.out.now.items (sets c.args.place c.args.to (constant (c.long_number.ensures.ty i) (c.long_number.ensures.value i)) rest))) c.sets.ensures
+    on_ok_weaker c.sets_constant.result (λ h rest. h rest
+    ∙ (λ i. followed c.args.out.now.items (sets c.args.place c.args.to (constant (c.long_number.ensures.ty i) (c.long_number.ensures.value i)) rest))) c.sets_constant.ensures

@@ -29,7 +29,7 @@ pub done-done-requires-clause-step : goal.done-done-requires-clause-step
 done-done-requires-clause-step c =
     let s = stands c.args.program.now c.args.ctx.now c.requires.of c.requires.stopped in
     let r = in_range c.args.program.now c.args.ctx.now c.requires.of.program s _ c.instr.ensures.is in
-    step_fits r.scope (top_of c.args.ctx.now).own _ r.temps r.slots (subst (λ (k : InstrKind). is_instr r.scope (instr_kind_view c.instr.result.now.place k) ≡ true) c.in-Step.is r.valid)
+    rw c.deref.ensures (step_fits r.scope (top_of c.args.ctx.now).own _ r.temps r.slots (subst (λ (k : InstrKind). is_instr r.scope (instr_kind_view c.instr.result.now.place k) ≡ true) c.in-Step.is r.valid))
 
 pub done-done-requires-clause-idle : goal.done-done-requires-clause-idle
 done-done-requires-clause-idle c = c.requires.shared.idle
@@ -38,7 +38,7 @@ pub settle-requires-clause-step : goal.settle-requires-clause-step
 settle-requires-clause-step c =
     let s = stands c.args.program.now c.args.ctx.now c.requires.of c.requires.stopped in
     let r = in_range c.args.program.now c.args.ctx.now c.requires.of.program s _ c.instr.ensures.is in
-    step_fits r.scope (top_of c.args.ctx.now).own _ r.temps r.slots (subst (λ (k : InstrKind). is_instr r.scope (instr_kind_view c.instr.result.now.place k) ≡ true) c.in-Step.is r.valid)
+    rw c.deref-in-Step.ensures (step_fits r.scope (top_of c.args.ctx.now).own _ r.temps r.slots (subst (λ (k : InstrKind). is_instr r.scope (instr_kind_view c.instr.result.now.place k) ≡ true) c.in-Step.is r.valid))
 
 pub returns-in_default : goal.returns-in_default
 returns-in_default c =
@@ -54,5 +54,5 @@ returns-in-Leave c =
 pub returns-in-Step : goal.returns-in-Step
 returns-in-Step c =
     let s = stands c.args.program.now c.args.ctx.now c.requires.of c.requires.stopped in
-    step_is_done c.args.program.now c.args.self.now c.done-done.new.self c.args.ctx.now c.settle.new.ctx c.settle.result s c.instr.result.now c.in-Step.node c.done-done.result c.in-Step.is c.instr.ensures.is c.requires.of.wait (c.done-done.ensures.does c.args.program.now)
-    (c.done-done.ensures.told c.args.program.now) c.done-done.ensures.waits c.settle.ensures
+    step_is_done c.args.program.now c.args.self.now c.done-done.new.self c.args.ctx.now c.settle.new.ctx c.settle.result s c.instr.result.now c.in-Step.node c.done-done.result c.in-Step.is c.instr.ensures.is c.requires.of.wait (rw c.deref.ensures at (c.done-done.ensures.does c.args.program.now))
+    (rw c.deref.ensures at (c.done-done.ensures.told c.args.program.now)) (rw c.deref.ensures at c.done-done.ensures.waits) (rw c.deref-in-Step.ensures at c.settle.ensures)
