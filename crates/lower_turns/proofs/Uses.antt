@@ -209,22 +209,22 @@ module _ (g : Setting) (vs : List Variable) (ob : ℕ → Option ℕ) (b : Block
       where
         apply_is : (d : ℕ → Held) (m : Num) → m.ty ≡ promoted_type s → m.value ≡ n.value → d u ≡ number m → d (suc u) ≡ number (num (promoted_type s) (pos 0))
             → calculated program_code place (own g ob d b) (ir.apply op (promoted_type s) u (suc u)) ≡ Ok (number c)
-        apply_is d m type_is same there behind_is =
+        apply_is d m type_is eq there behind_is =
             let t : IntType = promoted_type s in
             ap (λ (h : Held). on_value (known place h) (on_number (λ (z : Num). on_value (known place (d (suc u))) (on_number (λ (o : Num). if_taken (takes op t z.ty o.ty) (or_broken place number (result_of op z o))))))) there
             ∙ ap (λ (h : Held). on_value (known place h) (on_number (λ (o : Num). if_taken (takes op t m.ty o.ty) (or_broken place number (result_of op m o))))) behind_is
             ∙ taken_is (takes op t m.ty t) (or_broken place number (result_of op m (num t (pos 0)))) (subst (λ (z : IntType). takes op t z t ≡ true) (sym type_is) (one_type op t t refl))
-            ∙ ap (or_broken place number) (result m (num t (pos 0)) same (zero_is t))
+            ∙ ap (or_broken place number) (result m (num t (pos 0)) eq (zero_is t))
 
         once_promoted : (d : ℕ → Held) (m : Num) → Below u tm d → m.ty ≡ promoted_type s → m.value ≡ n.value → d u ≡ number m
             → Alike g x (then_ (sets place (suc u) (ir.constant (promoted_type s) (pos 0)) (sets place u (ir.apply op (promoted_type s) u (suc u)) r)) q) (own g ob d b)
-        once_promoted d m under type_is same there =
+        once_promoted d m under type_is eq there =
             let t : IntType = promoted_type s in
             let ne : u ≢ suc u = λ y. absurd (omega (arith, y)) in
             let d' : ℕ → Held = set_at d (suc u) (number (num t (pos 0))) in
             set_then program_code g.thread g.answer g.cs' g.s g.t x place (suc u) (ir.constant t (pos 0)) (sets place u (ir.apply op t u (suc u)) r) q (own g ob d b) (number (num t (pos 0))) refl
             (set_then program_code g.thread g.answer g.cs' g.s g.t x place u (ir.apply op t u (suc u)) r q (own g ob d' b) (number c)
-            (apply_is d' m type_is same (set_there d (suc u) (number (num t (pos 0))) u ne ∙ there) (set_here d (suc u) (number (num t (pos 0)))))
+            (apply_is d' m type_is eq (set_there d (suc u) (number (num t (pos 0))) u ne ∙ there) (set_here d (suc u) (number (num t (pos 0)))))
             (leads d' (below_set u (suc u) tm d (number (num t (pos 0))) (omega arith) under)))
 
         by_type : (one : Bool) → same_type s (promoted_type s) ≡ one
