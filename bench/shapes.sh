@@ -7,8 +7,8 @@
 # The shapes, of at most 1,000 locals, as a function may have few more: `pointers`, a fifth of the text declares pointers, and the others read through
 #   them in turn; `rounds`, the same with `while` before each
 #   read; `deep 60` and `deep 120`, the same reads within so many loops; `few`, 250 pointers and as many reads as fit; `literals`, a string for each
-#   statement; `breaks`, a loop in which objects and breaks take turns, and then breaks alone; `empty`, `blocks` and `loops`, the statements `;`, `{}` and `while(s);`; `nots`
-#   and `ands`, chains of ! and of &&. By number and not by bytes: `strings`, 1,000, 8,000 and 65,000 literals, and `globals`, 1,000, 2,000 and 4,000
+#   statement; `breaks`, a loop in which objects and breaks take turns, and then breaks alone; `empty`, `blocks` and `loops`, the statements `;`, `{}` and `while(s);`, a line
+#   each; `semis` and `braces`, `;` and `{}` without line ends between; `nots` and `ands`, chains of ! and of &&. By number and not by bytes: `strings`, 1,000, 8,000 and 65,000 literals, and `globals`, 1,000, 2,000 and 4,000
 #   globals that begin with a literal each and are read (a text may have 4,096).
 # All statements stand in functions that aren't called. It measures $ALASKA, or else bin/alaska, or else the one that ./alaska builds without a proof.
 # /usr/bin/time measures.
@@ -86,6 +86,8 @@ shape breaks "say(\"while(s){\"); $reads say((k < 1000 ? \"int v\" k \"[1];\" : 
 shape empty "$reads say(\";\")"
 shape blocks "$reads say(\"{}\")"
 shape loops "$reads say(\"while(s);\")"
+shape semis "$reads { row = \"\"; for (j = 0; j < 100; j++) row = row \";\"; say(row) }"
+shape braces "$reads { row = \"\"; for (j = 0; j < 50; j++) row = row \"{}\"; say(row) }"
 shape nots "$reads { row = \"s=\"; for (j = 0; j < 100; j++) row = row \"!\"; say(row \"s;\") }"
 shape ands "$reads { row = \"s=s\"; for (j = 0; j < 100; j++) row = row \"&&s\"; say(row \";\") }"
 heading 1000 8000 65000

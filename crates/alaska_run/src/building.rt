@@ -85,10 +85,11 @@ pub(crate) fn save_text(
     ensures { IfOk result (IsWorkedOf settings text.items) }
 {
     let Built {
-        typed: _,
+        typed,
         checked,
         code,
     } = built;
+    drop(typed);
     let code = Arc::new(alloc, Program::load(alloc, code)?)?;
     let Saving {
         status,

@@ -159,10 +159,11 @@ fn open_text(
     ensures { IfOk result (IsOpenedOf settings text.items) }
 {
     let Built {
-        typed: _,
+        typed,
         checked,
         code,
     } = built;
+    drop(typed);
     open_world(alloc, settings, text, checked, code, REPORT_BYTES)
 }
 

@@ -53,7 +53,7 @@ fn constant_at(bytes: &[u8]) -> Result<(Calc, &[u8]), Fault>
 {
     let (ty, rest) = type_at(bytes)?;
     let (number, rest) = value_at(ty, rest)?;
-    Ok((Calc::Num(number), rest))
+    Ok((Calc::number(number), rest))
 }
 
 /// The address of a global.

@@ -73,7 +73,7 @@ fn call_node_at(alloc: Global, place: u32, bytes: &[u8]) -> Result<(Node, &[u8])
     ensures { Gives (λ x. (node_view x.0, x.1.now)) result (behind_tag (node_fields (nodes 0)) (make_node place) files.call_node bytes.now) }
 {
     let (call, rest) = call_at(alloc, bytes)?;
-    Ok((node(place, NodeKind::Call(call)), rest))
+    Ok((node(place, NodeKind::Call(Box::new(alloc, call)?)), rest))
 }
 
 /// A Ret.
@@ -89,7 +89,7 @@ fn step_node_at(alloc: Global, place: u32, bytes: &[u8]) -> Result<(Node, &[u8])
     ensures { Gives (λ x. (node_view x.0, x.1.now)) result (behind_tag (node_fields (nodes 0)) (make_node place) files.step_node bytes.now) }
 {
     let (step, rest) = step_at(alloc, bytes)?;
-    Ok((node(place, NodeKind::Step(step)), rest))
+    Ok((node(place, NodeKind::Step(Box::new(alloc, step)?)), rest))
 }
 
 /// A Look.

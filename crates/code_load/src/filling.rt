@@ -79,7 +79,10 @@ fn fill_node(alloc: Global, before: Option<&[u32]>, n: Node) -> Result<Node, NoM
             let second = fill_row(alloc, latch)?;
             Ok(rounds(place, first, second))
         }
-        NodeKind::Call(c) => Ok(node(place, NodeKind::Call(fill_call(alloc, before, c)?))),
+        NodeKind::Call(c) => {
+            let filled = fill_call(alloc, before, Box::into_inner(c))?;
+            Ok(node(place, NodeKind::Call(Box::new(alloc, filled)?)))
+        }
         leaf => Ok(node(place, leaf)),
     }
 }

@@ -10,7 +10,7 @@ ghost use Rattle.code_save.specs.inner.Written.{Wrote};
 
 use crate::numbers::{put_number, put_type, put_u32};
 use crate::output::Output;
-use ak_words::{IntType, NoMemory, Op};
+use ak_words::{IntType, NoMemory, Num, Op};
 use struct_ir::code::Calc;
 
 /// The number of an operation.
@@ -49,7 +49,7 @@ fn tag_of(calc: &Calc) -> u8
     ensures { result ≡ calc_number (calc_parts (calc_view calc.now)).0 }
 {
     match calc {
-        Calc::Num(_) => 0,
+        Calc::Num(..) => 0,
         Calc::Global(_) => 1,
         Calc::Literal(_) => 2,
         Calc::Object(_) => 3,
@@ -112,7 +112,7 @@ fn put_fields(out: &mut Output, calc: &Calc) -> Result<(), NoMemory>
     ensures { OnOk result (Wrote (calc_fields (calc_parts (calc_view calc.now)).0) (calc_parts (calc_view calc.now)).1 true out.old out.new) }
 {
     match calc {
-        Calc::Num(number) => put_number(out, *number),
+        Calc::Num(ty, bits) => put_number(out, Num::from_bits(*ty, *bits)),
         Calc::Global(n) => put_u32(out, *n),
         Calc::Literal(n) => put_u32(out, *n),
         Calc::Object(n) => put_u32(out, *n),

@@ -144,9 +144,19 @@ fn emit_one(
         NodeKind::Set(to, calc) => put_before(code, end, place, InstrKind::Set(*to, *calc)),
         NodeKind::Break => put_before(code, end, place, InstrKind::Jump(out)),
         NodeKind::Next => put_before(code, end, place, InstrKind::Jump(next)),
-        NodeKind::Call(c) => put_before(code, end, place, InstrKind::Enter(copy_call(alloc, c)?)),
+        NodeKind::Call(c) => put_before(
+            code,
+            end,
+            place,
+            InstrKind::Enter(Box::new(alloc, copy_call(alloc, c)?)?),
+        ),
         NodeKind::Ret(temp) => put_before(code, end, place, InstrKind::Leave(*temp)),
-        NodeKind::Step(s) => put_before(code, end, place, InstrKind::Step(copy_step(alloc, s)?)),
+        NodeKind::Step(s) => put_before(
+            code,
+            end,
+            place,
+            InstrKind::Step(Box::new(alloc, copy_step(alloc, s)?)?),
+        ),
         NodeKind::Look(slot, base) => put_before(code, end, place, InstrKind::Look(*slot, *base)),
         NodeKind::Safepoint(slots) => put_before(
             code,

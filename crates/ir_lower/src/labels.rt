@@ -18,7 +18,7 @@ pub fn sets_number(out: &mut Vec<Node>, place: u32, to: u32, number: u32) -> Res
     ensures { OnOk result ((rest : Nodes) → followed out.new.items rest ≡ followed out.old.items (sets_int place to number rest)) }
 {
     match i32::try_from(number) {
-        Ok(value) => sets(out, place, to, Calc::Num(Num::int(value))),
+        Ok(value) => sets(out, place, to, Calc::number(Num::int(value))),
         Err(_) => Err(NoMemory),
     }
 }
@@ -88,7 +88,7 @@ fn compares(
         Some(value) => {
             let flag = after(chosen)?;
             let free = after(flag)?;
-            sets(out, place, flag, Calc::Num(value))?;
+            sets(out, place, flag, Calc::number(value))?;
             sets(out, place, flag, Calc::Apply(Op::Eq, value.ty, free, flag))?;
             let one = one_number(alloc, place, chosen, small(number)?)?;
             branches(out, place, flag, one, Vec::new(alloc))

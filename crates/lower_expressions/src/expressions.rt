@@ -30,7 +30,7 @@ pub fn expr(alloc: Global, e: &Expr, f: &Frame, t: u32, out: &mut Vec<Node>) -> 
     ensures { OnOk result ((rest : Nodes) → followed out.new.items rest ≡ followed out.old.items (expr_nodes (frame_view f.now) (expr_view e.now) t rest)) }
 {
     match &e.node {
-        ExprNode::Num(n) => sets(out, e.place, t, Calc::Num(*n)),
+        ExprNode::Num(n) => sets(out, e.place, t, Calc::number(*n)),
         ExprNode::Null => sets(out, e.place, t, Calc::Null),
         ExprNode::Local(n) => local_value(alloc, out, e.place, &e.ty, *n, t, f.home(*n)),
         ExprNode::Literal(_) | ExprNode::Global(_) | ExprNode::Deref(_) | ExprNode::Member(..) =>

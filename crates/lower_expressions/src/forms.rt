@@ -391,7 +391,7 @@ fn opposite_nodes(out: &mut Vec<Node>, place: u32, ty: IntType, u: u32) -> Resul
     let unsigned = unsigned_of(ty);
     let zero = after(u)?;
     sets(out, place, u, Calc::Convert(unsigned, u))?;
-    sets(out, place, zero, Calc::Num(unsigned_zero(ty)))?;
+    sets(out, place, zero, Calc::number(unsigned_zero(ty)))?;
     sets(out, place, u, Calc::Apply(Op::Sub, unsigned, zero, u))?;
     sets(out, place, u, Calc::Convert(ty, u))
 }

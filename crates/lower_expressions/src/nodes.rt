@@ -56,7 +56,7 @@ pub fn acts(
         temps: SmallVec::from_vec(temps),
         slots: SmallVec::new(alloc),
     };
-    put(out, place, NodeKind::Step(step))
+    put(out, place, NodeKind::Step(Box::new(alloc, step)?))
 }
 
 /// A function is called.
@@ -76,7 +76,7 @@ pub fn calls(
         temps,
         slots: Vec::new(alloc),
     };
-    put(out, place, NodeKind::Call(call))
+    put(out, place, NodeKind::Call(Box::new(alloc, call)?))
 }
 
 /// The one nodes, or the others, by what a register holds.
@@ -130,14 +130,14 @@ fn long_number(value: u32) -> Num
 pub fn sets_int(out: &mut Vec<Node>, place: u32, to: u32, value: u8) -> Result<(), NoMemory>
     ensures { OnOk result ((rest : Nodes) → followed out.new.items rest ≡ followed out.old.items (sets_int place to value rest)) }
 {
-    sets(out, place, to, Calc::Num(small_int(value)))
+    sets(out, place, to, Calc::number(small_int(value)))
 }
 
 /// A constant of type `unsigned long`.
 pub fn sets_long(out: &mut Vec<Node>, place: u32, to: u32, value: u32) -> Result<(), NoMemory>
     ensures { OnOk result ((rest : Nodes) → followed out.new.items rest ≡ followed out.old.items (sets_long place to value rest)) }
 {
-    sets(out, place, to, Calc::Num(long_number(value)))
+    sets(out, place, to, Calc::number(long_number(value)))
 }
 
 /// One of two constants, as what a register holds counts as true or doesn't.

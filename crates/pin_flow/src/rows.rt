@@ -42,9 +42,15 @@ fn copy_node(alloc: Global, n: &Node) -> Result<Node, NoMemory>
         }
         NodeKind::Break => Ok(node(n.place, NodeKind::Break)),
         NodeKind::Next => Ok(node(n.place, NodeKind::Next)),
-        NodeKind::Call(c) => Ok(node(n.place, NodeKind::Call(copy_call(alloc, c)?))),
+        NodeKind::Call(c) => Ok(node(
+            n.place,
+            NodeKind::Call(Box::new(alloc, copy_call(alloc, c)?)?),
+        )),
         NodeKind::Ret(temp) => Ok(node(n.place, NodeKind::Ret(*temp))),
-        NodeKind::Step(s) => Ok(node(n.place, NodeKind::Step(copy_step(alloc, s)?))),
+        NodeKind::Step(s) => Ok(node(
+            n.place,
+            NodeKind::Step(Box::new(alloc, copy_step(alloc, s)?)?),
+        )),
         NodeKind::Look(s, base) => Ok(node(n.place, NodeKind::Look(*s, *base))),
         NodeKind::Safepoint(slots) => {
             Ok(node(n.place, NodeKind::Safepoint(slots.to_vec(alloc)?)))

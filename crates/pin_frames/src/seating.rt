@@ -43,13 +43,30 @@ fn add_stop(alloc: Global, place: u32, out: &mut Vec<Node>) -> Result<(), NoMemo
     add(out, node(place, NodeKind::Safepoint(Vec::new(alloc))))
 }
 
-fn add_call(alloc: Global, place: u32, c: CallNode, out: &mut Vec<Node>) -> Result<(), NoMemory>
-    ensures { OnOk result ((rest : Nodes) → followed out.new.items rest ≡ followed out.old.items (seats (cleared_in (Rattle.struct_ir.specs.Nodes.plain place (Rattle.struct_ir.specs.Nodes.call (call_view c)))) rest)) }
+fn add_call(
+    alloc: Global,
+    place: u32,
+    c: Box<CallNode>,
+    out: &mut Vec<Node>,
+) -> Result<(), NoMemory>
+    ensures { OnOk result ((rest : Nodes) → followed out.new.items rest ≡ followed out.old.items (seats (cleared_in (Rattle.struct_ir.specs.Nodes.plain place (Rattle.struct_ir.specs.Nodes.call (call_view c.value)))) rest)) }
 {
-    let bare = clear_call(alloc, c);
+    let bare = Box::new(alloc, clear_call(alloc, Box::into_inner(c)))?;
     add_stop(alloc, place, out)?;
     add(out, node(place, NodeKind::Call(bare)))?;
     add_stop(alloc, place, out)
+}
+
+fn add_step(
+    alloc: Global,
+    place: u32,
+    s: Box<StepNode>,
+    out: &mut Vec<Node>,
+) -> Result<(), NoMemory>
+    ensures { OnOk result ((rest : Nodes) → followed out.new.items rest ≡ followed out.old.items (seats (cleared_in (Rattle.struct_ir.specs.Nodes.plain place (Rattle.struct_ir.specs.Nodes.step (step_view s.value)))) rest)) }
+{
+    let bare = Box::new(alloc, clear_step(alloc, Box::into_inner(s)))?;
+    add(out, node(place, NodeKind::Step(bare)))
 }
 
 /// The row with empty lists and its safepoints.
@@ -94,7 +111,7 @@ fn seat_node(alloc: Global, n: Node, out: &mut Vec<Node>) -> Result<(), NoMemory
             add(out, rounds(place, first, second))
         }
         NodeKind::Call(c) => add_call(alloc, place, c, out),
-        NodeKind::Step(s) => add(out, node(place, NodeKind::Step(clear_step(alloc, s)))),
+        NodeKind::Step(s) => add_step(alloc, place, s, out),
         NodeKind::Safepoint(_) => Ok(()),
         leaf => add(out, node(place, leaf)),
     }

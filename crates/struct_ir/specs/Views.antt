@@ -1,5 +1,6 @@
 -- What the code's nodes are.
-use Rattle.std.specs.Prelude.{ℕ, List, [], ◌∷◌, map}
+use Rattle.std.specs.Prelude.{ℕ, pos, List, [], ◌∷◌, map}
+use Rattle.ak_words.specs.Num.{num}
 use Rattle.c_tree.specs.TypedViews.{piece_view, init_view}
 use Rattle.struct_ir.specs.declared.code.Place.{Place as CodePlace}
 use Rattle.struct_ir.specs.declared.code.Calc.{Calc as CodeCalc}
@@ -22,7 +23,7 @@ place_view a = record { base = a.base; index = a.index; scale = a.scale; offset 
 
 -- what a register is set to
 abbrev pub calc_view : CodeCalc → nodes.Calc
-calc_view (calcs.Num n) = nodes.constant n.ty n.value
+calc_view (calcs.Num ty bits) = nodes.constant ty (num ty (pos bits)).value
 calc_view calcs.Unset = nodes.unset
 calc_view calcs.Null = nodes.null
 calc_view (calcs.Global n) = nodes.global n
@@ -70,9 +71,9 @@ abbrev mutual
   kind_view place (kinds.Loop' shape body shape' latch) = nodes.loop place (row_view body) (row_view latch)
   kind_view place kinds.Break = nodes.break_ place
   kind_view place kinds.Next = nodes.next_ place
-  kind_view place (kinds.Call c) = nodes.plain place (nodes.call (call_view c))
+  kind_view place (kinds.Call c) = nodes.plain place (nodes.call (call_view c.value))
   kind_view place (kinds.Ret temp) = nodes.ret place temp
-  kind_view place (kinds.Step s) = nodes.plain place (nodes.step (step_view s))
+  kind_view place (kinds.Step s) = nodes.plain place (nodes.step (step_view s.value))
   kind_view place (kinds.Look slot base) = nodes.plain place (nodes.look slot base)
   kind_view place (kinds.Safepoint slots) = nodes.plain place (nodes.safepoint slots.items)
   kind_view place (kinds.Begin i) = nodes.plain place (nodes.begin_object i)

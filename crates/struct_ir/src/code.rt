@@ -1,6 +1,6 @@
 ghost use Rattle.std.specs.Prelude.{◌≤◌};
 
-use ak_words::{IntType, Num, Op};
+use ak_words::{IntType, Op};
 use block_store::{Access, Change};
 use c_tree::typed::{Init, Piece};
 use smallvec::SmallVec;
@@ -24,8 +24,8 @@ pub struct Place {
 /// What a register is set to.
 #[derive(Clone, Copy, Debug)]
 pub enum Calc {
-    /// A number.
-    Num(Num),
+    /// The number of a type that has these bits in two's complement, as many as the type has.
+    Num(IntType, u64),
     /// Nothing: the register is unset, as a local is whose declaration is reached again (C11 6.2.4 p6).
     Unset,
     /// The null pointer.
@@ -154,11 +154,11 @@ pub enum NodeKind {
     /// Goes to the step of the loop around.
     Next,
     /// Calls a function.
-    Call(CallNode),
+    Call(Box<CallNode>),
     /// Returns, with the value of a register.
     Ret(Option<u32>),
     /// Does an action.
-    Step(StepNode),
+    Step(Box<StepNode>),
     /// Puts into a pin slot the word of a register and that word's address.
     Look(u32, u32),
     /// A point at which objects may move, but for those that these slots name.

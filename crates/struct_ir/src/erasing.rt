@@ -91,9 +91,15 @@ fn erase_node(alloc: Global, n: &Node) -> Result<Node, NoMemory>
         }
         NodeKind::Break => Ok(node(n.place, NodeKind::Break)),
         NodeKind::Next => Ok(node(n.place, NodeKind::Next)),
-        NodeKind::Call(c) => Ok(node(n.place, NodeKind::Call(bare_call(alloc, c)?))),
+        NodeKind::Call(c) => Ok(node(
+            n.place,
+            NodeKind::Call(Box::new(alloc, bare_call(alloc, c)?)?),
+        )),
         NodeKind::Ret(temp) => Ok(node(n.place, NodeKind::Ret(*temp))),
-        NodeKind::Step(s) => Ok(node(n.place, NodeKind::Step(bare_step(alloc, s)?))),
+        NodeKind::Step(s) => Ok(node(
+            n.place,
+            NodeKind::Step(Box::new(alloc, bare_step(alloc, s)?)?),
+        )),
         NodeKind::Look(slot, base) => Ok(node(n.place, NodeKind::Look(*slot, *base))),
         NodeKind::Safepoint(slots) => {
             Ok(node(n.place, NodeKind::Safepoint(slots.to_vec(alloc)?)))

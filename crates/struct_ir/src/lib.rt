@@ -4,6 +4,7 @@
 #![tactic(auto)]
 
 pub mod code;
+mod constant;
 mod copies;
 pub mod copying;
 pub mod erasing;

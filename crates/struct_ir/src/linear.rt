@@ -29,7 +29,7 @@ pub enum InstrKind {
     /// Sets a register.
     Set(u32, Calc),
     /// Does an action.
-    Step(StepNode),
+    Step(Box<StepNode>),
     /// Puts into a pin slot the word of a register and that word's address.
     Look(u32, u32),
     /// A point at which objects may move, but for those that these slots name.
@@ -41,7 +41,7 @@ pub enum InstrKind {
     /// Ends a round of a loop, and goes on at an index, which isn't later.
     Round(usize),
     /// Calls a function.
-    Enter(CallNode),
+    Enter(Box<CallNode>),
     /// Returns, with the value of a register.
     Leave(Option<u32>),
 }

@@ -204,7 +204,7 @@ fn is_calc(x: &Scope, calc: &Calc) -> bool
     ensures { result ≡ is_calc (scope_view x.now) (calc_view calc.now) }
 {
     match calc {
-        Calc::Num(_) | Calc::Unset | Calc::Null => true,
+        Calc::Num(..) | Calc::Unset | Calc::Null => true,
         Calc::Global(n) => (*n as usize) < x.globals,
         Calc::Literal(n) => (*n as usize) < x.literals,
         Calc::Object(n) => (*n as usize) < x.objects,

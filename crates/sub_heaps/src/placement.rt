@@ -220,7 +220,8 @@ impl Heaps {
         ensures capacity { vec_capacity owners.new ≡ vec_capacity owners.old }
         ensures sound { IsSound self.new }
     {
-        walk(&mut self.tree, moves, self.size, owners);
+        let end = self.tree.end(0);
+        walk(&mut self.tree, end, moves, self.size, owners);
     }
 
     // Takes the object that starts at `from` out, and puts it in again at `to`.

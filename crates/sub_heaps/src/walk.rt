@@ -1,5 +1,5 @@
 ghost use Rattle.std.specs.Prelude.{◌≡◌, ◌+◌, ◌<◌, ◌≤◌, ◌↔◌, [], ◌∷◌, ◌++◌, length, vec_len, vec_capacity, true};
-ghost use Rattle.sub_heaps.specs.inner.Order.{InOrder};
+ghost use Rattle.sub_heaps.specs.inner.Order.{InOrder, last_end};
 ghost use Rattle.sub_heaps.specs.inner.Trees.{objects_of, height_of, IsTree, IsOrdered};
 ghost use Rattle.sub_heaps.specs.inner.Walks.{walked, left_over, owners_met, StartsBelow};
 
@@ -8,8 +8,15 @@ use crate::objects::Object;
 use crate::tree::{Tree, summary};
 
 /// Makes each next move at the object of the tree that it is of, where the objects stay in order, and gives
-/// the moves that are left. A list with room for it gets whose the moved objects are.
-pub fn walk<'a>(tree: &mut Tree, moves: &'a [Move], size: u32, owners: &mut Vec<u32>) -> &'a [Move]
+/// the moves that are left. The objects end at `end`. A list with room for it gets whose the moved objects are.
+pub fn walk<'a>(
+    tree: &mut Tree,
+    end: u32,
+    moves: &'a [Move],
+    size: u32,
+    owners: &mut Vec<u32>,
+) -> &'a [Move]
+    requires end { end ≡ last_end 0 (objects_of tree.old) }
     requires ordered { IsOrdered size tree.old }
     requires in_order { InOrder 0 (walked moves.now (objects_of tree.old)) }
     ensures left { result.now ≡ left_over moves.now (objects_of tree.old) }
@@ -22,12 +29,14 @@ pub fn walk<'a>(tree: &mut Tree, moves: &'a [Move], size: u32, owners: &mut Vec<
     let Tree::Fork(node) = tree else {
         return moves;
     };
-    if !starts_below(moves, node.under.end) {
+    if !starts_below(moves, end) {
         return moves;
     }
-    let moves = walk(&mut node.left, moves, size, owners);
+    // Both sides are read before either is walked, so that their nodes come from memory at the same time.
+    let (low_end, high_end) = (node.left.end(0), node.right.end(0));
+    let moves = walk(&mut node.left, low_end, moves, size, owners);
     let moves = step(&mut node.object, moves, owners);
-    let moves = walk(&mut node.right, moves, size, owners);
+    let moves = walk(&mut node.right, high_end, moves, size, owners);
     node.under = summary(&node.left, node.object, &node.right, size);
     moves
 }

@@ -138,7 +138,7 @@ fn insert_node(alloc: Global, bases: &[u32], n: Node, out: &mut Vec<Node>) -> Re
             let second = insert_row(alloc, bases, step)?;
             add(out, rounds(place, first, second))
         }
-        NodeKind::Step(s) => add_step(alloc, bases, place, s, out),
+        NodeKind::Step(s) => add_step(alloc, bases, place, Box::into_inner(s), out),
         leaf => add(out, node(place, leaf)),
     }
 }
@@ -156,7 +156,7 @@ fn add_step(
 {
     look_for(bases, place, &s.places, out)?;
     let through = insert_step(alloc, bases, s)?;
-    add(out, node(place, NodeKind::Step(through)))
+    add(out, node(place, NodeKind::Step(Box::new(alloc, through)?)))
 }
 
 fn look_for(

@@ -1,6 +1,6 @@
 //! Structured code as text, for people and tests: one line a node.
 
-use ak_words::{IntType, NoMemory, Op};
+use ak_words::{IntType, NoMemory, Num, Op};
 use block_store::{Access, Change};
 use c_tree::typed::Piece;
 use std::alloc::Global;
@@ -139,7 +139,7 @@ fn write_to(out: &mut String, to: Option<u32>) -> Result<(), NoMemory> {
 
 fn write_calc(out: &mut String, calc: &Calc) -> Result<(), NoMemory> {
     match calc {
-        Calc::Num(n) => write_value(out, n.value),
+        Calc::Num(ty, bits) => write_value(out, Num::from_bits(*ty, *bits).value),
         Calc::Unset => write_word(out, "unset"),
         Calc::Null => write_word(out, "null"),
         Calc::Global(n) => write_numbered(out, "global ", *n),

@@ -69,7 +69,7 @@ impl Maker {
             temps: SmallVec::new(alloc),
             slots: SmallVec::new(alloc),
         };
-        self.put(row, NodeKind::Step(step))
+        self.put(row, NodeKind::Step(Box::new(alloc, step)?))
     }
 
     fn put_act(&mut self, alloc: Global, row: &mut Vec<Node>) -> Result<(), NoMemory> {

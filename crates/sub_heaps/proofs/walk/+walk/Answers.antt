@@ -2,9 +2,7 @@ use Rattle.std.proofs.Common.{◌≡◌, ℕ, ◌∷◌, ◌++◌, [], ◌∙◌
 use Rattle.std.proofs.lemmas.Bool.{true≢false}
 use Rattle.sub_heaps.specs.declared.tree.Node.{Node}
 use Rattle.sub_heaps.specs.declared.tree.Tree.TheVariants.{Fork}
-use Rattle.sub_heaps.specs.declared.summary.Summary.{Summary}
 use Rattle.sub_heaps.specs.inner.Order.{InOrder, last_end}
-use Rattle.sub_heaps.specs.inner.Summaries.{summary_of}
 use Rattle.sub_heaps.specs.inner.Trees.{objects_of, IsTree, IsOrdered}
 use Rattle.sub_heaps.specs.inner.Walks.{walked, left_over, StartsBelow}
 use Rattle.sub_heaps.proofs.Halves.{left_ordered, right_ordered, left_smaller, right_smaller}
@@ -27,11 +25,7 @@ returns-in_default-clause-owners t c = rw c.in_default.is (Notes-none c.args.own
 -- ---- no move below the end
 
 not_below : (t : ℕ) (c : Then-not-starts_below t) → StartsBelow (last_end 0 (objects_of c.args.tree.now)) c.args.moves.now → ⊥
-not_below t c below =
-    let tree = subst (IsTree c.args.size) c.in-Fork.is c.requires.ordered.tree in
-    let known : c.deref.result.now.under ≡ summary_of c.args.size (objects_of (Fork c.in-Fork.node)) = cc (tree.4) in
-    let end : c.deref.result.now.under.end ≡ last_end 0 (objects_of c.args.tree.now) = rw c.in-Fork.is (ap (λ (s : Summary). s.end) known) in
-    true≢false (sym (c.starts_below.ensures.1 (rw end below)) ∙ c.if-not-starts_below.true)
+not_below t c below = true≢false (sym (c.starts_below.ensures.1 (rw c.requires.end below)) ∙ c.if-not-starts_below.true)
 
 pub returns-then-not-starts_below-clause-left : goal.returns-then-not-starts_below-clause-left
 returns-then-not-starts_below-clause-left t c =
@@ -57,7 +51,10 @@ walk-moves-requires t c =
     let ordered = subst (IsOrdered c.args.size) c.in-Fork.is c.requires.ordered in
     let order = subst (λ t. InOrder 0 (walked c.args.moves.now (objects_of t))) c.in-Fork.is c.requires.in_order in
     let left : c.deref_mut.result.now.left ≡ c.in-Fork.node.value.left = cc in
-    (rw left (omega (arith, c.decreases, left_smaller c.args.tree.now c.in-Fork.node c.in-Fork.is)), (rw left (left_ordered c.args.size c.in-Fork.node ordered), rw left (walked_before c.args.moves.now (objects_of c.in-Fork.node.value.left) _ order)))
+    let known : c.deref.result.now.left ≡ c.in-Fork.node.value.left = cc in
+    let inside = left_ordered c.args.size c.in-Fork.node ordered in
+    let end = c.end-low_end.ensures c.args.size (subst (IsTree c.args.size) (sym known) inside.tree) in
+    (rw left (omega (arith, c.decreases, left_smaller c.args.tree.now c.in-Fork.node c.in-Fork.is)), (rw left (rw known at end), (rw left inside, rw left (walked_before c.args.moves.now (objects_of c.in-Fork.node.value.left) _ order))))
 
 -- ---- the object between the two sides
 
@@ -87,7 +84,10 @@ walk-moves-requires-2 t c =
     let order = subst (λ t. InOrder 0 (walked c.args.moves.now (objects_of t))) c.in-Fork.is c.requires.in_order in
     let right : c.deref_mut-3.result.now.right ≡ c.in-Fork.node.value.right = ap (λ (n : Node). n.right) c.deref_mut-3.ensures.value ∙ ap (λ (n : Node). n.right) c.deref_mut-2.ensures.value ∙ ap (λ (n : Node). n.right) c.deref_mut.ensures.value in
     let behind = walked_behind c.args.moves.now (objects_of c.in-Fork.node.value.left) c.in-Fork.node.value.object c.step-moves.new.object (objects_of c.in-Fork.node.value.right) c.step-moves.result.now (stepped t here) (left_behind t here) order in
-    (rw right (omega (arith, c.decreases, right_smaller c.args.tree.now c.in-Fork.node c.in-Fork.is)), (rw right (right_ordered c.args.size c.in-Fork.node ordered), rw right behind))
+    let known : c.deref-2.result.now.right ≡ c.in-Fork.node.value.right = cc in
+    let inside = right_ordered c.args.size c.in-Fork.node ordered in
+    let end = c.end-high_end.ensures c.args.size (subst (IsTree c.args.size) (sym known) inside.tree) in
+    (rw right (omega (arith, c.decreases, right_smaller c.args.tree.now c.in-Fork.node c.in-Fork.is)), (rw right (rw known at end), (rw right inside, rw right behind)))
 
 -- ---- all of it
 
@@ -96,9 +96,9 @@ summary-requires-clause-order t c =
     let order = subst (λ t. InOrder 0 (walked c.args.moves.now (objects_of t))) c.in-Fork.is c.requires.in_order in
     let old_left : c.deref_mut.result.now.left ≡ c.in-Fork.node.value.left = ap (λ (n : Node). n.left) c.deref_mut.ensures.value in
     let old_right : c.deref_mut-3.result.now.right ≡ c.in-Fork.node.value.right = ap (λ (n : Node). n.right) c.deref_mut-3.ensures.value ∙ ap (λ (n : Node). n.right) c.deref_mut-2.ensures.value ∙ ap (λ (n : Node). n.right) c.deref_mut.ensures.value in
-    let left : c.deref-2.result.now.left ≡ c.walk-moves.new.tree = ap (λ (n : Node). n.left) c.deref-2.ensures ∙ ap (λ (n : Node). n.left) c.deref_mut-3.ensures.value ∙ ap (λ (n : Node). n.left) c.deref_mut-2.ensures.value in
-    let object : c.deref-3.result.now.object ≡ c.step-moves.new.object = ap (λ (n : Node). n.object) c.deref-3.ensures ∙ ap (λ (n : Node). n.object) c.deref_mut-3.ensures.value in
-    let right : c.deref-4.result.now.right ≡ c.walk-moves-2.new.tree = ap (λ (n : Node). n.right) c.deref-4.ensures in
+    let left : c.deref-3.result.now.left ≡ c.walk-moves.new.tree = ap (λ (n : Node). n.left) c.deref-3.ensures ∙ ap (λ (n : Node). n.left) c.deref_mut-3.ensures.value ∙ ap (λ (n : Node). n.left) c.deref_mut-2.ensures.value in
+    let object : c.deref-4.result.now.object ≡ c.step-moves.new.object = ap (λ (n : Node). n.object) c.deref-4.ensures ∙ ap (λ (n : Node). n.object) c.deref_mut-3.ensures.value in
+    let right : c.deref-5.result.now.right ≡ c.walk-moves-2.new.tree = ap (λ (n : Node). n.right) c.deref-5.ensures in
     let here = (goal.at.summary-requires-clause-order t c).After-step-moves in
     rw (left, object, right, c.walk-moves.ensures.objects, c.walk-moves-2.ensures.objects, old_left, old_right) (rw (forked t here) at order)
 

@@ -1,5 +1,7 @@
-use Rattle.std.proofs.Common.{◌==◌, false, ap}
+use Rattle.std.proofs.Common.{◌==◌, false, sym, ap, ◌∙◌}
 use Rattle.std.proofs.lemmas.Result.{on_ok_weaker}
+use Rattle.struct_ir.specs.declared.code.CallNode.{CallNode}
+use Rattle.struct_ir.specs.declared.code.StepNode.{StepNode}
 use Rattle.struct_ir.specs.Views.{kind_view, node_view}
 use Rattle.pin_flow.specs.Looks.{is_to}
 use Rattle.pin_flow.specs.Views.{looks_at, assigns_at}
@@ -28,22 +30,22 @@ returns-in-Set c =
 
 pub returns-in-Call : goal.returns-in-Call
 returns-in-Call c =
-    let to = c.in-Call.c.to in
+    let to = c.deref.result.now.to in
     on_ok_weaker c.assign_if.result
     (λ f k i e.
     let old = has c.args.set.now.items i in
     let new = has c.assign_if.new.set.items i in
-    bit_behind c.args.self.now (node_view c.args.n.now) i old new (λ d. false) (λ d. is_to d to) (λ d. ap (λ y. looks_at d (kind_view c.args.n.now.place y)) c.in-Call.is) (λ d. ap (λ y. assigns_at d (kind_view c.args.n.now.place y)) c.in-Call.is)
+    bit_behind c.args.self.now (node_view c.args.n.now) i old new (λ d. false) (λ d. is_to d to) (λ d. ap (λ y. looks_at d (kind_view c.args.n.now.place y)) c.in-Call.is) (λ d. ap (λ y. assigns_at d (kind_view c.args.n.now.place y)) c.in-Call.is ∙ ap (λ (k : CallNode). is_to d k.to) (sym c.deref.ensures))
     (λ d h. assign_behind (is_to d to) old new (f d i h)) k e)
     c.assign_if.ensures
 
 pub returns-in-Step : goal.returns-in-Step
 returns-in-Step c =
-    let to = c.in-Step.s.to in
+    let to = c.deref-in-Step.result.now.to in
     on_ok_weaker c.assign_if-in-Step.result
     (λ f k i e.
     let old = has c.args.set.now.items i in
     let new = has c.assign_if-in-Step.new.set.items i in
-    bit_behind c.args.self.now (node_view c.args.n.now) i old new (λ d. false) (λ d. is_to d to) (λ d. ap (λ y. looks_at d (kind_view c.args.n.now.place y)) c.in-Step.is) (λ d. ap (λ y. assigns_at d (kind_view c.args.n.now.place y)) c.in-Step.is)
+    bit_behind c.args.self.now (node_view c.args.n.now) i old new (λ d. false) (λ d. is_to d to) (λ d. ap (λ y. looks_at d (kind_view c.args.n.now.place y)) c.in-Step.is) (λ d. ap (λ y. assigns_at d (kind_view c.args.n.now.place y)) c.in-Step.is ∙ ap (λ (k : StepNode). is_to d k.to) (sym c.deref-in-Step.ensures))
     (λ d h. assign_behind (is_to d to) old new (f d i h)) k e)
     c.assign_if-in-Step.ensures

@@ -7,6 +7,9 @@ use Rattle.sub_heaps.proofs.Kept.{tree_ordered}
 use Rattle.sub_heaps.proofs.Shifting.{IsKept-walked}
 use Rattle.sub_heaps.proofs.placement.Heaps.make_in_order.Goals as goal
 
+pub walk-requires-clause-end : goal.walk-requires-clause-end
+walk-requires-clause-end c = c.end-end.ensures c.self.inside.size c.self.invariant.balanced
+
 pub walk-requires-clause-ordered : goal.walk-requires-clause-ordered
 walk-requires-clause-ordered c = tree_ordered c.self.inside.count c.self.inside.size c.self.inside.most c.self.inside.tree _ _ c.self.invariant
 
