@@ -119,8 +119,8 @@ fn same_type(s: IntType, t: IntType) -> bool
     s.bits == t.bits && s.signed == t.signed
 }
 
-// The number in `t`, of the type `from`, becomes one of type `to`.
-fn becomes(
+/// The number in `t`, of the type `from`, becomes one of type `to`.
+pub fn becomes(
     out: &mut Vec<Node>,
     place: u32,
     from: IntType,

@@ -4,13 +4,13 @@ ghost use Rattle.std.specs.Prelude.{◌≡◌, IfOk, OnOk, map};
 ghost use Rattle.c_tree.specs.TypedViews.{layout_view, type_view, expr_node_view};
 ghost use Rattle.struct_ir.specs.Nodes.{Nodes};
 ghost use Rattle.struct_ir.specs.Views.{calc_view, followed};
-ghost use Rattle.lower_forms.specs.Forms.{sum_calc};
+ghost use Rattle.lower_forms.specs.Forms.{compares_to_zero, negation, sum_calc};
 ghost use Rattle.lower_expressions.specs.inner.Operators.{unary_nodes, operation};
 
-use crate::forms::converts;
-use crate::nodes::{sets, sets_truth};
+use crate::forms::{becomes, converts};
+use crate::nodes::{after, sets, sets_truth};
 use crate::types::{is_pointer, number_type};
-use ak_words::NoMemory;
+use ak_words::{IntType, NoMemory, Num, Op, promote};
 use c_meaning::types::element_size;
 use c_tree::typed::{CType, Expr, ExprNode, Layout};
 use std::alloc::Global;
@@ -22,9 +22,47 @@ pub fn unary_nodes(alloc: Global, out: &mut Vec<Node>, e: &Expr, t: u32) -> Resu
 {
     match &e.node {
         ExprNode::Convert(from) => converts(out, e.place, &from.ty, &e.ty, t),
-        ExprNode::Not(_) => sets_truth(alloc, out, e.place, t, 0, 1),
+        ExprNode::Not(a) => negation(alloc, out, e.place, &a.ty, t),
         ExprNode::PtrTest(_) => sets(out, e.place, t, Calc::PtrTest(t)),
         _ => Ok(()),
+    }
+}
+
+// Whether the number in `t`, of the type `ty`, is 0, or whether it isn't, as the comparison `op`
+// says: it is promoted first, and the register behind `t` takes the 0.
+fn compares_to_zero(
+    out: &mut Vec<Node>,
+    place: u32,
+    op: Op,
+    ty: IntType,
+    t: u32,
+) -> Result<(), NoMemory>
+    ensures { OnOk result ((rest : Nodes) → followed out.new.items rest ≡ followed out.old.items (compares_to_zero place op ty t rest)) }
+{
+    let promoted = promote(ty);
+    let zero = Num {
+        ty: promoted,
+        value: 0,
+    };
+    let u = after(t)?;
+    becomes(out, place, ty, promoted, t)?;
+    sets(out, place, u, Calc::Num(zero))?;
+    sets(out, place, t, Calc::Apply(op, promoted, t, u))
+}
+
+// `!` of the value in `t`, which is of the type `ty`.
+fn negation(
+    alloc: Global,
+    out: &mut Vec<Node>,
+    place: u32,
+    ty: &CType,
+    t: u32,
+) -> Result<(), NoMemory>
+    ensures { OnOk result ((rest : Nodes) → followed out.new.items rest ≡ followed out.old.items (negation place (type_view ty.now) t rest)) }
+{
+    match ty {
+        CType::Int(ty) => compares_to_zero(out, place, Op::Eq, *ty, t),
+        _ => sets_truth(alloc, out, place, t, 0, 1),
     }
 }
 

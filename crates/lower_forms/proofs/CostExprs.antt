@@ -5,7 +5,7 @@ use Rattle.c_tree.specs.Typed as tree
 use Rattle.c_meaning.specs.Values.{is_scalar}
 use Rattle.struct_ir.specs.Nodes.{Act, Nodes, no_nodes, more_nodes, plain}
 use Rattle.struct_ir.specs.meaning.Blocks.{same_type}
-use Rattle.lower_forms.specs.Forms.{Frame, home, branches, is_void, local_value, local_place, number_type, converts_number, converts, lib_nodes, expr_nodes, value_nodes, place_nodes, object_place, args_nodes, dropped_nodes, dropped_value}
+use Rattle.lower_forms.specs.Forms.{Frame, home, branches, sets_truth, is_void, local_value, local_place, number_type, converts_number, converts, negation, lib_nodes, expr_nodes, value_nodes, place_nodes, object_place, args_nodes, dropped_nodes, dropped_value}
 use Rattle.lower_forms.specs.Sizes.{nodes_in, expr_size, expr_parts, args_size}
 
 -- the first row is the second with at most so many nodes before it
@@ -34,6 +34,9 @@ cost_either false x y a q h k = k
 pub cost_becomes : (place : ℕ) (s u : IntType) (t : ℕ) (rest : Nodes) → AtMost (converts_number place s u t rest) 1 rest
 cost_becomes place s u t rest = cost_either (same_type s u) _ _ _ _ (cost_weak _ _ _ _ (cost_same rest) (omega arith)) (cost_one _ _ _)
 
+cost_truth : (place t m n : ℕ) (rest : Nodes) → AtMost (sets_truth place t m n rest) 3 rest
+cost_truth place t m n rest = cost_branch _ _ _ _ _ _ _ (cost_one _ _ _) (cost_one _ _ _)
+
 module _ (f : Frame) where
   cost_local : (place : ℕ) (ty : tree.Ty) (m t : ℕ) (o : Option ℕ) (rest : Nodes) → AtMost (local_value place ty m t o rest) (3) rest
   cost_local place ty m t None rest = cost_weak _ _ _ _ (cost_step _ _ _ _ _ (cost_one _ _ _) (cost_same _)) (omega arith)
@@ -51,6 +54,15 @@ module _ (f : Frame) where
   cost_converts place from (tree.pointer s) t rest = cost_weak _ _ _ _ (cost_same _) (omega arith)
   cost_converts place from (tree.array s m) t rest = cost_weak _ _ _ _ (cost_same _) (omega arith)
   cost_converts place from (tree.structure m) t rest = cost_weak _ _ _ _ (cost_same _) (omega arith)
+
+  cost_negation : (place : ℕ) (ty : tree.Ty) (t : ℕ) (rest : Nodes) → AtMost (negation place ty t rest) (3) rest
+  cost_negation place (tree.integer s) t rest = cost_step _ _ _ _ _ (cost_becomes place s _ t _) (cost_step _ _ _ _ _ (cost_one _ _ _) (cost_one _ _ _))
+  cost_negation place tree.void t rest = cost_truth place t 0 1 rest
+  cost_negation place (tree.atomic s) t rest = cost_truth place t 0 1 rest
+  cost_negation place tree.mutex t rest = cost_truth place t 0 1 rest
+  cost_negation place (tree.pointer s) t rest = cost_truth place t 0 1 rest
+  cost_negation place (tree.array s m) t rest = cost_truth place t 0 1 rest
+  cost_negation place (tree.structure m) t rest = cost_truth place t 0 1 rest
 
   cost_lib : (place : ℕ) (which : tree.Lib) (es : tree.Exprs) (t : ℕ) (rest : Nodes) → AtMost (lib_nodes place which es t rest) (5) rest
   cost_lib place (tree.print pieces) es t rest = cost_weak _ _ _ _ (cost_step _ _ _ _ _ (cost_one _ _ _) (cost_same _)) (omega arith)
@@ -86,7 +98,7 @@ module _ (f : Frame) where
     cost_value place ty (tree.address_of e) t rest = cost_weak _ _ _ _ (cost_step _ _ _ _ _ (cost_place e t _) (cost_same _)) (omega arith)
     cost_value place ty (tree.decay e) t rest = cost_weak _ _ _ _ (cost_step _ _ _ _ _ (cost_place e t _) (cost_same _)) (omega arith)
     cost_value place ty (tree.convert e) t rest = cost_weak _ _ _ _ (cost_step _ _ _ _ _ (cost_expr e t _) (cost_step _ _ _ _ _ (cost_converts place (tree.type_of e) ty t rest) (cost_same _))) (omega arith)
-    cost_value place ty (tree.not_ e) t rest = cost_weak _ _ _ _ (cost_step _ _ _ _ _ (cost_expr e t _) (cost_step _ _ _ _ _ (cost_branch _ _ _ _ _ _ _ (cost_step _ _ _ _ _ (cost_one _ _ _) (cost_same _)) (cost_step _ _ _ _ _ (cost_one _ _ _) (cost_same _))) (cost_same _))) (omega arith)
+    cost_value place ty (tree.not_ e) t rest = cost_weak _ _ _ _ (cost_step _ _ _ _ _ (cost_expr e t _) (cost_negation place (tree.type_of e) t rest)) (omega arith)
     cost_value place ty (tree.binary op a b) t rest = cost_weak _ _ _ _ (cost_step _ _ _ _ _ (cost_expr a t _) (cost_step _ _ _ _ _ (cost_expr b (suc t) _) (cost_step _ _ _ _ _ (cost_one _ _ _) (cost_same _)))) (omega arith)
     cost_value place ty (tree.and_also a b) t rest = cost_weak _ _ _ _ (cost_step _ _ _ _ _ (cost_expr a t _) (cost_step _ _ _ _ _ (cost_branch _ _ _ _ _ _ _ (cost_step _ _ _ _ _ (cost_expr b t _) (cost_step _ _ _ _ _ (cost_branch _ _ _ _ _ _ _ (cost_step _ _ _ _ _ (cost_one _ _ _) (cost_same _)) (cost_step _ _ _ _ _ (cost_one _ _ _) (cost_same _))) (cost_same _))) (cost_step _ _ _ _ _ (cost_one _ _ _) (cost_same _))) (cost_same _))) (omega arith)
     cost_value place ty (tree.or_else a b) t rest = cost_weak _ _ _ _ (cost_step _ _ _ _ _ (cost_expr a t _) (cost_step _ _ _ _ _ (cost_branch _ _ _ _ _ _ _ (cost_step _ _ _ _ _ (cost_one _ _ _) (cost_same _)) (cost_step _ _ _ _ _ (cost_expr b t _) (cost_step _ _ _ _ _ (cost_branch _ _ _ _ _ _ _ (cost_step _ _ _ _ _ (cost_one _ _ _) (cost_same _)) (cost_step _ _ _ _ _ (cost_one _ _ _) (cost_same _))) (cost_same _)))) (cost_same _))) (omega arith)

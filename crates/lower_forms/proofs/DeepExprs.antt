@@ -6,7 +6,7 @@ use Rattle.c_tree.specs.Typed as tree
 use Rattle.c_meaning.specs.Values.{is_scalar}
 use Rattle.struct_ir.specs.Nodes.{Act, Nodes, no_nodes, more_nodes, plain}
 use Rattle.struct_ir.specs.meaning.Blocks.{same_type}
-use Rattle.lower_forms.specs.Forms.{Frame, home, branches, is_void, local_value, local_place, number_type, converts_number, converts, lib_nodes, expr_nodes, value_nodes, place_nodes, object_place, args_nodes, dropped_nodes, dropped_value}
+use Rattle.lower_forms.specs.Forms.{Frame, home, branches, sets_truth, is_void, local_value, local_place, number_type, converts_number, converts, negation, lib_nodes, expr_nodes, value_nodes, place_nodes, object_place, args_nodes, dropped_nodes, dropped_value}
 use Rattle.lower_forms.specs.Sizes.{nested_in, expr_depth, depth_inside, args_depth}
 
 -- the first row is the second with nodes before it that are nested at most so deep
@@ -35,6 +35,9 @@ deep_either false x y a q h k = k
 pub deep_becomes : (place : ℕ) (s u : IntType) (t : ℕ) (rest : Nodes) → NoDeeper (converts_number place s u t rest) 1 rest
 deep_becomes place s u t rest = deep_either (same_type s u) _ _ _ _ (deep_weak _ _ _ _ (deep_same rest) (omega arith)) (deep_one _ _ _)
 
+deep_truth : (place t m n : ℕ) (rest : Nodes) → NoDeeper (sets_truth place t m n rest) 2 rest
+deep_truth place t m n rest = deep_branch _ _ _ _ _ _ _ (deep_one _ _ _) (deep_one _ _ _)
+
 module _ (f : Frame) where
   deep_local : (place : ℕ) (ty : tree.Ty) (m t : ℕ) (o : Option ℕ) (rest : Nodes) → NoDeeper (local_value place ty m t o rest) (1) rest
   deep_local place ty m t None rest = deep_weak _ _ _ _ (deep_step _ _ _ _ _ (deep_one _ _ _) (deep_same _)) (omega arith)
@@ -52,6 +55,15 @@ module _ (f : Frame) where
   deep_converts place from (tree.pointer s) t rest = deep_weak _ _ _ _ (deep_same _) (omega arith)
   deep_converts place from (tree.array s m) t rest = deep_weak _ _ _ _ (deep_same _) (omega arith)
   deep_converts place from (tree.structure m) t rest = deep_weak _ _ _ _ (deep_same _) (omega arith)
+
+  deep_negation : (place : ℕ) (ty : tree.Ty) (t : ℕ) (rest : Nodes) → NoDeeper (negation place ty t rest) (2) rest
+  deep_negation place (tree.integer s) t rest = deep_weak _ _ _ _ (deep_step _ _ _ _ _ (deep_becomes place s _ t _) (deep_step _ _ _ _ _ (deep_one _ _ _) (deep_one _ _ _))) (omega arith)
+  deep_negation place tree.void t rest = deep_truth place t 0 1 rest
+  deep_negation place (tree.atomic s) t rest = deep_truth place t 0 1 rest
+  deep_negation place tree.mutex t rest = deep_truth place t 0 1 rest
+  deep_negation place (tree.pointer s) t rest = deep_truth place t 0 1 rest
+  deep_negation place (tree.array s m) t rest = deep_truth place t 0 1 rest
+  deep_negation place (tree.structure m) t rest = deep_truth place t 0 1 rest
 
   deep_lib : (place : ℕ) (which : tree.Lib) (es : tree.Exprs) (t : ℕ) (rest : Nodes) → NoDeeper (lib_nodes place which es t rest) (1) rest
   deep_lib place (tree.print pieces) es t rest = deep_weak _ _ _ _ (deep_step _ _ _ _ _ (deep_one _ _ _) (deep_same _)) (omega arith)
@@ -87,7 +99,7 @@ module _ (f : Frame) where
     deep_value place ty (tree.address_of e) t rest = deep_weak _ _ _ _ (deep_step _ _ _ _ _ (deep_place e t _) (deep_same _)) (omega arith)
     deep_value place ty (tree.decay e) t rest = deep_weak _ _ _ _ (deep_step _ _ _ _ _ (deep_place e t _) (deep_same _)) (omega arith)
     deep_value place ty (tree.convert e) t rest = deep_weak _ _ _ _ (deep_step _ _ _ _ _ (deep_expr e t _) (deep_step _ _ _ _ _ (deep_converts place (tree.type_of e) ty t rest) (deep_same _))) (omega arith)
-    deep_value place ty (tree.not_ e) t rest = deep_weak _ _ _ _ (deep_step _ _ _ _ _ (deep_expr e t _) (deep_step _ _ _ _ _ (deep_branch _ _ _ _ _ _ _ (deep_step _ _ _ _ _ (deep_one _ _ _) (deep_same _)) (deep_step _ _ _ _ _ (deep_one _ _ _) (deep_same _))) (deep_same _))) (omega arith)
+    deep_value place ty (tree.not_ e) t rest = deep_weak _ _ _ _ (deep_step _ _ _ _ _ (deep_expr e t _) (deep_negation place (tree.type_of e) t rest)) (omega arith)
     deep_value place ty (tree.binary op a b) t rest = deep_weak _ _ _ _ (deep_step _ _ _ _ _ (deep_expr a t _) (deep_step _ _ _ _ _ (deep_expr b (suc t) _) (deep_step _ _ _ _ _ (deep_one _ _ _) (deep_same _)))) (omega arith)
     deep_value place ty (tree.and_also a b) t rest = deep_weak _ _ _ _ (deep_step _ _ _ _ _ (deep_expr a t _) (deep_step _ _ _ _ _ (deep_branch _ _ _ _ _ _ _ (deep_step _ _ _ _ _ (deep_expr b t _) (deep_step _ _ _ _ _ (deep_branch _ _ _ _ _ _ _ (deep_step _ _ _ _ _ (deep_one _ _ _) (deep_same _)) (deep_step _ _ _ _ _ (deep_one _ _ _) (deep_same _))) (deep_same _))) (deep_step _ _ _ _ _ (deep_one _ _ _) (deep_same _))) (deep_same _))) (omega arith)
     deep_value place ty (tree.or_else a b) t rest = deep_weak _ _ _ _ (deep_step _ _ _ _ _ (deep_expr a t _) (deep_step _ _ _ _ _ (deep_branch _ _ _ _ _ _ _ (deep_step _ _ _ _ _ (deep_one _ _ _) (deep_same _)) (deep_step _ _ _ _ _ (deep_expr b t _) (deep_step _ _ _ _ _ (deep_branch _ _ _ _ _ _ _ (deep_step _ _ _ _ _ (deep_one _ _ _) (deep_same _)) (deep_step _ _ _ _ _ (deep_one _ _ _) (deep_same _))) (deep_same _)))) (deep_same _))) (omega arith)

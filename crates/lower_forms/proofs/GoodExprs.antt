@@ -5,8 +5,10 @@ use mathlib.Core.Bool.{cond}
 use Rattle.std.proofs.lemmas.Bool.{and_from}
 use Rattle.std.specs.Prelude.{nat_lt, slice_get}
 use Rattle.std.specs.List.{list_all}
-use Rattle.ak_words.specs.IntType.{int, unsigned_long}
+use Rattle.ak_words.specs.IntType.{int, unsigned_long, promoted_type}
 use Rattle.ak_words.specs.declared.int_type.IntType.{IntType}
+use Rattle.ak_words.specs.declared.operation.Op.{Op}
+use Rattle.ak_words.specs.declared.operation.Op.TheVariants as ops
 use Rattle.block_store.specs.declared.values.Change.{Change}
 use Rattle.block_store.specs.declared.values.Change.TheVariants.{Add, Swap}
 use Rattle.c_tree.specs.Typed as tree
@@ -18,9 +20,9 @@ use Rattle.struct_ir.specs.Nodes as ir
 use Rattle.struct_ir.specs.Lists.{bare_place}
 use Rattle.struct_ir.specs.Valid.{Scope, Around, is_below_if, are_below, is_promoted, is_calc, is_place, has_params, has_width, is_piece}
 use Rattle.lower_forms.specs.Counts.{count, count_parts, count_all}
-use Rattle.lower_forms.specs.Forms.{Frame, home, first_temp, acts, calls, Reach, found, direct, indexed, at_temp, behind, member_reach, register_if, is_pointer, register_of, register_in, direct_if, indexed_if, pointer_register, pointed, reach, number_type, local_value, local_place, converts, sum_calc, temps_of, is_number, with_if, number_temps, text_places, pointed_number, changed_number, change_nodes, lib_nodes, expr_nodes, value_nodes, place_nodes, object_place, args_nodes}
+use Rattle.lower_forms.specs.Forms.{Frame, home, first_temp, acts, calls, Reach, found, direct, indexed, at_temp, behind, member_reach, register_if, is_pointer, register_of, register_in, direct_if, indexed_if, pointer_register, pointed, reach, number_type, compares_to_zero, negation, local_value, local_place, converts, sum_calc, temps_of, is_number, with_if, number_temps, text_places, pointed_number, changed_number, change_nodes, lib_nodes, expr_nodes, value_nodes, place_nodes, object_place, args_nodes}
 use Rattle.lower_forms.proofs.Operands.{operands_promoted}
-use Rattle.lower_forms.proofs.Pieces.{Good, promoted_is, below, good_none, good_set, good_becomes, good_step, good_branches, good_int, good_long, good_truth, InReach, temp_in, member_in, good_loads, store_step, copy_step, good_object, good_member}
+use Rattle.lower_forms.proofs.Pieces.{Good, promoted_is, promotes, below, good_none, good_set, good_becomes, good_step, good_branches, good_int, good_long, good_truth, InReach, temp_in, member_in, good_loads, store_step, copy_step, good_object, good_member}
 
 -- ---- formats
 
@@ -439,6 +441,20 @@ module _ (x : Scope) (c : InScope) (f : Frame) (s : Suits x c f) where
   two_below : (t : ℕ) → suc t < x.temps → (nat_lt t x.temps && nat_lt (suc t) x.temps) ≡ true
   two_below t h = and_from _ _ (below x t (omega (arith, h))) (below x (suc t) h)
 
+  good_compares : (a : Around) (place : ℕ) (op : Op) (s : IntType) (t : ℕ) (rest : Nodes) → suc t < x.temps → Good x a rest → Good x a (compares_to_zero place op s t rest)
+  good_compares a place op s t rest h g =
+      good_becomes x a place s (promoted_type s) t _ (omega (arith, h)) (good_set x a place (suc t) _ _ h refl
+      (good_set x a place t _ rest (omega (arith, h)) (and_from _ _ (promotes s) (two_below t h)) g))
+
+  good_negation : (a : Around) (place : ℕ) (ty : tree.Ty) (t : ℕ) (rest : Nodes) → suc t < x.temps → Good x a rest → Good x a (negation place ty t rest)
+  good_negation a place (tree.integer s) t rest h g = good_compares a place ops.Eq s t rest h g
+  good_negation a place tree.void t rest h g = good_truth x a place t 0 1 rest (omega (arith, h)) g
+  good_negation a place (tree.atomic s) t rest h g = good_truth x a place t 0 1 rest (omega (arith, h)) g
+  good_negation a place tree.mutex t rest h g = good_truth x a place t 0 1 rest (omega (arith, h)) g
+  good_negation a place (tree.pointer s) t rest h g = good_truth x a place t 0 1 rest (omega (arith, h)) g
+  good_negation a place (tree.array s n) t rest h g = good_truth x a place t 0 1 rest (omega (arith, h)) g
+  good_negation a place (tree.structure n) t rest h g = good_truth x a place t 0 1 rest (omega (arith, h)) g
+
   sum_below : (first : Bool) (t size : ℕ) → suc t < x.temps → is_calc x (sum_calc first t (suc t) size) ≡ true
   sum_below true t size h = two_below t h
   sum_below false t size h = and_from _ _ (below x (suc t) h) (below x t (omega (arith, h)))
@@ -463,7 +479,7 @@ module _ (x : Scope) (c : InScope) (f : Frame) (s : Suits x c f) where
     good_value place ty (tree.address_of e) h t k a rest g = good_place e h.0 t (omega (arith, k)) a rest g
     good_value place ty (tree.decay e) h t k a rest g = good_place e h.0 t (omega (arith, k)) a rest g
     good_value place ty (tree.convert e) h t k a rest g = good_expr e h.0 t (omega (arith, k)) a _ (good_converts a place (tree.type_of e) ty t rest (omega (arith, k)) g)
-    good_value place ty (tree.not_ e) h t k a rest g = good_expr e h.0 t (omega (arith, k)) a _ (good_truth x a place t 0 1 rest (omega (arith, k)) g)
+    good_value place ty (tree.not_ e) h t k a rest g = good_expr e h.0 t (omega (arith, k)) a _ (good_negation a place (tree.type_of e) t rest (omega (arith, k, at_least_one e)) g)
     good_value place ty (tree.binary op d e) h t k a rest g =
         good_expr d h.0 t (omega (arith, k)) a _ (good_expr e h.1 (suc t) (omega (arith, k, at_least_one d)) a _
         (good_set x a place t _ rest (omega (arith, k)) (and_from _ _ (operands_promoted op _ _ h.2) (two_below t (omega (arith, k, at_least_one d, at_least_one e)))) g))

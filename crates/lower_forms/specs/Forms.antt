@@ -8,7 +8,7 @@ use Rattle.std.specs.Prelude.{ℕ, zero, suc, ◌==◌, ◌++◌, Bool, true, fa
 use Rattle.ak_words.specs.declared.int_type.IntType.{IntType}
 use Rattle.ak_words.specs.declared.operation.Op.{Op}
 use Rattle.ak_words.specs.declared.operation.Op.TheVariants as ops
-use Rattle.ak_words.specs.IntType.{int, unsigned_long}
+use Rattle.ak_words.specs.IntType.{int, unsigned_long, promoted_type}
 use Rattle.block_store.specs.declared.values.Access.TheVariants as accesses
 use Rattle.block_store.specs.declared.values.Change.TheVariants.{Add, Swap}
 use Rattle.c_tree.specs.Typed as tree
@@ -213,6 +213,18 @@ number_type ty = int
 abbrev pub converts_number : (place : ℕ) → (from to : IntType) → (t : ℕ) → Nodes → Nodes
 converts_number place from to t rest = if same_type from to then rest else sets place t (ir.convert to t) rest
 
+-- whether the number in t, which is of this type, is 0, or whether it isn't, as the comparison says, as an int: it is promoted first, and
+-- the register behind t takes the 0 (C11 6.5.9 p3, p4)
+abbrev pub compares_to_zero : (place : ℕ) → Op → IntType → (t : ℕ) → Nodes → Nodes
+compares_to_zero place op s t rest =
+    converts_number place s (promoted_type s) t (sets place (suc t) (ir.constant (promoted_type s) (pos 0))
+    (sets place t (ir.apply op (promoted_type s) t (suc t)) rest))
+
+-- 1 or 0, as an int, as what t holds, which is of this type, counts as false or as true: a number is compared to 0 (C11 6.5.3.3 p5)
+abbrev pub negation : (place : ℕ) → tree.Ty → (t : ℕ) → Nodes → Nodes
+negation place (tree.integer s) t rest = compares_to_zero place ops.Eq s t rest
+negation place ty t rest = sets_truth place t 0 1 rest
+
 -- a conversion from one type to another: of a pointer it is nothing (C11 6.3)
 abbrev pub converts : (place : ℕ) → (from to : tree.Ty) → (t : ℕ) → Nodes → Nodes
 converts place from (tree.integer s) t rest = converts_number place (number_type from) s t rest
@@ -316,7 +328,7 @@ abbrev mutual
   value_nodes f place ty (tree.address_of e) t rest = place_nodes f e t rest
   value_nodes f place ty (tree.decay e) t rest = place_nodes f e t rest
   value_nodes f place ty (tree.convert e) t rest = expr_nodes f e t (converts place (tree.type_of e) ty t rest)
-  value_nodes f place ty (tree.not_ e) t rest = expr_nodes f e t (sets_truth place t 0 1 rest)
+  value_nodes f place ty (tree.not_ e) t rest = expr_nodes f e t (negation place (tree.type_of e) t rest)
   value_nodes f place ty (tree.binary op a b) t rest =
       expr_nodes f a t (expr_nodes f b (suc t) (sets place t (ir.apply op (number_type (tree.type_of a)) t (suc t)) rest))
   value_nodes f place ty (tree.and_also a b) t rest =

@@ -1,6 +1,6 @@
 -- Worked rows: small pieces of C and the code that they are lowered to, written by hand.
 use Rattle.std.specs.Prelude.{◌≡◌, ℕ, pos, true, false, List, [], ◌∷◌, Option, Some, None}
-use Rattle.ak_words.specs.declared.operation.Op.TheVariants.{Add, Sub, Mul, Shl}
+use Rattle.ak_words.specs.declared.operation.Op.TheVariants.{Add, Sub, Mul, Shl, Eq}
 use Rattle.ak_words.specs.IntType.{char, int, unsigned_int, long, unsigned_long}
 use Rattle.block_store.specs.declared.values.Access.TheVariants as accesses
 use Rattle.block_store.specs.declared.values.Change.TheVariants as changes
@@ -219,6 +219,25 @@ leave_code = record {
       ∷ ir.plain 20 (ir.end_object 1) ∷ ir.plain 20 (ir.end_object 0) ∷ []);
 }
 
+-- void negate(void){int i;char c;int *p; .. i=!i;i=!c;i=!p;}, where the last ! is of the pointer itself
+abbrev pub negate : tree.Func
+negate = func tree.void (kept (tree.integer int) ∷ kept (tree.integer char) ∷ kept (tree.pointer (tree.integer int)) ∷ [])
+    (tree.at_stmt 41 (tree.assign (number 40 0) (tree.at 42 (tree.integer int) (tree.not_ (number 43 0))))
+    ∷ tree.at_stmt 51 (tree.assign (number 50 0) (tree.at 52 (tree.integer int) (tree.not_ (a_char 53 1))))
+    ∷ tree.at_stmt 61 (tree.assign (number 60 0) (tree.at 62 (tree.integer int) (tree.not_ (tree.at 63 (tree.pointer (tree.integer int)) (tree.local 2))))) ∷ [])
+
+-- its code: a number is compared to 0, promoted before where it's of a narrower type than int, and a pointer is tested
+abbrev pub negate_code : ir.Func
+negate_code = record {
+  params = 0;
+  temps = 7;
+  slots = 0;
+  objects = [];
+  nodes = row (sets 43 3 (ir.copy 0) ∷ sets 42 4 (ir.constant int (pos 0)) ∷ sets 42 3 (ir.apply Eq int 3 4) ∷ sets 41 0 (ir.copy 3)
+      ∷ sets 53 3 (ir.copy 1) ∷ sets 52 3 (ir.convert int 3) ∷ sets 52 4 (ir.constant int (pos 0)) ∷ sets 52 3 (ir.apply Eq int 3 4) ∷ sets 51 0 (ir.copy 3)
+      ∷ sets 63 3 (ir.copy 2) ∷ ir.if_ 62 3 (row (sets 62 3 (ir.constant int (pos 0)) ∷ [])) (row (sets 62 3 (ir.constant int (pos 1)) ∷ [])) ∷ sets 61 0 (ir.copy 3) ∷ []);
+}
+
 -- the rows: what these functions are lowered to
 pub record RowsHold : Type 0 where
   pub lowered_program : lowered (program main churn) ≡ record { globals = []; literals = []; funcs = churn_code ∷ main_code ∷ []; main = 1 }
@@ -226,3 +245,4 @@ pub record RowsHold : Type 0 where
   pub lowered_changes : lowered (program main change) ≡ record { globals = []; literals = []; funcs = change_code ∷ main_code ∷ []; main = 1 }
   pub lowered_updates : lowered (program main update) ≡ record { globals = []; literals = []; funcs = update_code ∷ main_code ∷ []; main = 1 }
   pub lowered_jumps : lowered (program main leave) ≡ record { globals = []; literals = []; funcs = leave_code ∷ main_code ∷ []; main = 1 }
+  pub lowered_negations : lowered (program main negate) ≡ record { globals = []; literals = []; funcs = negate_code ∷ main_code ∷ []; main = 1 }

@@ -184,8 +184,8 @@ module _ (g : Setting) (busy : Calls g.t) where
         let fits = convert_fits (tree.type_of e) ty h.1 s in
         values_sim e h.0 (convert_values (tree.type_of e) ty fits) vs ob b tm (only_way place (converts ty) w) u (forms.converts place (tree.type_of e) ty u r) q (converted_goes vs ob b tm w u r q place e ty fits goes)
     value_sim place ty (tree.not_ e) h s vs ob b tm w u r q goes =
-        expr_sim e h.0 h.1 vs ob b tm (only_way place negates w) u (forms.sets_truth place u 0 1 r) q
-        (not_goes g vs ob b tm w u r q (of_kind g vs ob b tm w u (access_of_type ty) (accesses.Number int) found r q (ap access_of_type h.2) goes) place (access_of_type (tree.type_of e)) (pointed (frame g) e))
+        expr_sim e h.0 h.1 vs ob b tm (only_way place negates w) u (forms.negation place (tree.type_of e) u r) q
+        (not_goes g vs ob b tm w u r q (of_kind g vs ob b tm w u (access_of_type ty) (accesses.Number int) found r q (ap access_of_type h.2) goes) place (tree.type_of e) (pointed (frame g) e))
     value_sim place ty (tree.binary op x y) h s vs ob b tm w u r q goes =
         let k = operand_scalars op (tree.type_of x) (tree.type_of y) h.2 in
         subst (λ c. Alike g (run_node (here g) place ty (tree.binary op x y) w (now g vs b)) (then_ (expr_nodes (frame g) x u (expr_nodes (frame g) y (suc u) (forms.sets place u c r))) q) (own g ob tm b)) (numbers_calculated op (tree.type_of x) u (suc u))

@@ -75,7 +75,7 @@ module _ (t : tree.Typed) (n : ℕ) (f : tree.Func) (ob : ℕ → Option ℕ) (a
       let less = below_less (suc u) u a b (omega arith) g in
       at_second place op left lh rh rrch fits kind (g u (omega arith) ∙ e) (joined_below a b u _ _ _ j less) (use_below _ _ _ _ _ _ _ at less)
   use_below _ _ _ _ _ _ _ (at_convert place from to fits at) g = at_convert place from to fits (use_below _ _ _ _ _ _ _ at g)
-  use_below _ _ _ _ _ _ _ (at_not place lh rch at) g = at_not place lh rch (use_below _ _ _ _ _ _ _ at g)
+  use_below _ _ _ _ _ _ _ (at_not place ty rch at) g = at_not place ty rch (use_below _ _ _ _ _ _ _ at g)
   use_below _ _ _ _ _ _ _ (at_test place rch at) g = at_test place rch (use_below _ _ _ _ _ _ _ at g)
   use_below _ _ _ _ _ _ _ (at_member place offset rch small at) g = at_member place offset rch small (use_below _ _ _ _ _ _ _ at g)
   use_below _ _ _ _ _ _ _ (at_read place how atomic rch at) g = at_read place how atomic rch (use_below _ _ _ _ _ _ _ at g)

@@ -40,7 +40,7 @@ use Rattle.struct_ir.specs.meaning.Blocks.{Held, Own, value, number, pointer, ta
 use Rattle.struct_ir.specs.meaning.Threads.{further, moved_if}
 use Rattle.lower_forms.specs.Counts.{greatest, greatest_row, count_if}
 use Rattle.lower_forms.specs.Forms as forms
-use Rattle.lower_forms.specs.Forms.{Frame, home, home_or_none, looped, held, among, again, fresh, breaks_in, nexts_in, over_break, over_next, sets, acts, branches, sets_int, sets_truth, Reach, found, direct, indexed, reached, behind, at_temp, member_reach, reach, member_nodes, temps_of, lib_nodes, expr_nodes, place_nodes, args_nodes, ends, with_home, sized_copy, computes, update_by, test_nodes, choose_nodes, stmt_nodes, row_nodes, switch_nodes}
+use Rattle.lower_forms.specs.Forms.{Frame, home, home_or_none, negation, looped, held, among, again, fresh, breaks_in, nexts_in, over_break, over_next, sets, acts, branches, sets_int, sets_truth, Reach, found, direct, indexed, reached, behind, at_temp, member_reach, reach, member_nodes, temps_of, lib_nodes, expr_nodes, place_nodes, args_nodes, ends, with_home, sized_copy, computes, update_by, test_nodes, choose_nodes, stmt_nodes, row_nodes, switch_nodes}
 use Rattle.lower_forms.specs.Programs.{homes_from, body_frame, registers_of, last_nodes}
 
 -- ---- values and registers
@@ -376,8 +376,8 @@ module _ (t : tree.Typed) (n : ℕ) (f : tree.Func) where
         → AtE ob tm a k u how rch r q → AtE ob tm a (source.second_of place op left k) (suc u) rh rrch (sets place u (calc_of op lh u (suc u)) r) q
     at_convert : {a : Around} {k : Use} {u : ℕ} {rch : Reach} {r : Nodes} {q : Position} (place : ℕ) (from to : tree.Ty) → ConvertFits from to
         → AtE ob tm a k u (access_of_type to) rch r q → AtE ob tm a (source.only_of place (converts to) k) u (access_of_type from) rch (forms.converts place from to u r) q
-    at_not : {a : Around} {k : Use} {u : ℕ} {r : Nodes} {q : Position} (place : ℕ) (lh : Access) (rch : Reach)
-        → AtE ob tm a k u (accesses.Number int) found r q → AtE ob tm a (source.only_of place negates k) u lh rch (sets_truth place u 0 1 r) q
+    at_not : {a : Around} {k : Use} {u : ℕ} {r : Nodes} {q : Position} (place : ℕ) (ty : tree.Ty) (rch : Reach)
+        → AtE ob tm a k u (accesses.Number int) found r q → AtE ob tm a (source.only_of place negates k) u (access_of_type ty) rch (negation place ty u r) q
     at_test : {a : Around} {k : Use} {u : ℕ} {r : Nodes} {q : Position} (place : ℕ) (rch : Reach)
         → AtE ob tm a k u (accesses.Number int) found r q → AtE ob tm a (source.only_of place tests k) u accesses.Pointer rch (sets place u (ir.pointer_test u) r) q
     at_member : {a : Around} {k : Use} {u : ℕ} {r : Nodes} {q : Position} (place offset : ℕ) (rch : Reach) → offset < 2 ^ 64

@@ -112,7 +112,7 @@ module _ (g : Setting) where
         second_goes (at_around g a low) vs ob b tm (use_of (here g) k) u r q how rch (goes_e a low agrees k u how rch r q at) place op left lh rh rrch fits kind e j
     goes_e _ low agrees _ _ _ _ _ _ (at_convert {a} {k} {u} {rch} {r} {q} place from to fits at) =
         convert_goes (at_around g a low) vs ob b tm (use_of (here g) k) u r q place from to rch fits (goes_e a low agrees k u (access_of_type to) rch r q at)
-    goes_e _ low agrees _ _ _ _ _ _ (at_not {a} {k} {u} {r} {q} place lh rch at) = not_goes (at_around g a low) vs ob b tm (use_of (here g) k) u r q (goes_e a low agrees k u (accesses.Number int) found r q at) place lh rch
+    goes_e _ low agrees _ _ _ _ _ _ (at_not {a} {k} {u} {r} {q} place ty rch at) = not_goes (at_around g a low) vs ob b tm (use_of (here g) k) u r q (goes_e a low agrees k u (accesses.Number int) found r q at) place ty rch
     goes_e _ low agrees _ _ _ _ _ _ (at_test {a} {k} {u} {r} {q} place rch at) = test_goes (at_around g a low) vs ob b tm (use_of (here g) k) u r q (goes_e a low agrees k u (accesses.Number int) found r q at) place rch
     goes_e _ low agrees _ _ _ _ _ _ (at_member {a} {k} {u} {r} {q} place offset rch small at) =
         member_goes (at_around g a low) vs ob b tm (use_of (here g) k) u r q place offset rch small (goes_e a low agrees k u accesses.Pointer (member_reach offset rch) r q at)

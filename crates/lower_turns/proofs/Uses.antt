@@ -1,10 +1,14 @@
 -- What follows a value does the same on both sides, use by use.
+use Rattle.std.specs.Ordering.{int_eq}
 use Rattle.std.proofs.Common.{◌≡◌, ◌≢◌, ℕ, zero, suc, ◌<◌, ◌^◌, ◌*ℤ◌, ℤ, pos, Bool, true, false, not, if◌then◌else◌, List, [], ◌∷◌, Option, Some, None, Result, Ok, Err, refl, sym, ap, subst, ◌∙◌, arith}
 use Rattle.ak_words.specs.declared.int_type.IntType.{IntType}
 use Rattle.ak_words.specs.declared.number.Num.{Num}
+use Rattle.ak_words.specs.declared.operation.Op.{Op}
+use Rattle.ak_words.specs.declared.operation.Op.TheVariants as ops
 use Rattle.ak_words.specs.declared.rule.Rule.{Rule}
-use Rattle.ak_words.specs.IntType.{int, unsigned_long}
+use Rattle.ak_words.specs.IntType.{int, unsigned_long, promoted_type}
 use Rattle.ak_words.specs.Num.{num}
+use Rattle.ak_words.specs.Op.{result_of, truth as one_if}
 use Rattle.block_store.specs.declared.values.Access.{Access}
 use Rattle.block_store.specs.declared.values.Access.TheVariants as accesses
 use Rattle.block_store.specs.declared.values.Ptr.{Ptr}
@@ -24,15 +28,17 @@ use Rattle.c_meaning.specs.Turns.{WayOfUse, on_ok, stays, after_call, second_way
 use Rattle.struct_ir.specs.Nodes as ir
 use Rattle.struct_ir.specs.Nodes.{Nodes, no_nodes, Place}
 use Rattle.struct_ir.specs.Structured.{Position, then_}
-use Rattle.struct_ir.specs.meaning.Blocks.{Held, value, number, pointer, truth, Fault, Own, set_at, known, on_value, on_number, on_pointer, or_broken, calculated, same_type}
+use Rattle.struct_ir.specs.meaning.Blocks.{Held, value, number, pointer, truth, Fault, Own, set_at, known, on_value, on_number, on_pointer, or_broken, calculated, same_type, takes, if_taken}
 use Rattle.struct_ir.specs.meaning.Threads.{address_of, action_of, action_with, set_if, moved_if}
 use Rattle.struct_ir.specs.meaning.Threads as served
 use Rattle.lower_forms.specs.Forms as forms
-use Rattle.lower_forms.specs.Forms.{sets, sets_int, sets_truth, Reach, found, direct, indexed as by_index, reached, behind, member_reach, member_nodes, converts_number}
+use Rattle.lower_forms.specs.Forms.{sets, sets_int, sets_truth, Reach, found, direct, indexed as by_index, reached, behind, member_reach, member_nodes, converts_number, compares_to_zero, negation}
 use Rattle.lower_forms.specs.Programs.{lowered}
 use Rattle.lower_turns.proofs.Relation.{HasKind, Below, Reaches, Points, BinaryFits, forwards, forwards_from, calc_of, Joined, not_joined, joined, ConvertFits, to_number, from_atomic, to_pointer, Calls, at_second, at_convert, at_not, at_test, at_member, at_read, at_second_test, Together, both_went, same, at_gives}
 use Rattle.lower_turns.proofs.Registers.{set_here, set_there, below_less, below_set}
-use Rattle.lower_turns.proofs.Values.{binary_is, binary_kind, int_kind, moved_further, member_moved, unmoved, not_moved, times_one, long_is, own_number, one_int}
+use Rattle.lower_turns.proofs.Values.{taken_is, binary_is, binary_kind, int_kind, moved_further, member_moved, unmoved, not_moved, times_one, long_is, own_number, one_int}
+use Rattle.lower_turns.proofs.Compared.{zero_is, promoted_is, equal_is, not_not}
+use Rattle.lower_turns.proofs.Operands.{one_type}
 use Rattle.lower_turns.proofs.Steps.{no_more, then_same, set_then, set_result, branch, acts_alike}
 use Rattle.lower_turns.proofs.Setting.{Setting, here, now, own, Alike, GoesE, points_found, later}
 use Rattle.lower_turns.proofs.Actions.{GivesKind, if_went, load_so}
@@ -192,15 +198,77 @@ module _ (g : Setting) (vs : List Variable) (ob : ℕ → Option ℕ) (b : Block
           (gets_int tm a w u r q goes below place 1) (gets_int tm a w u r q goes below place 0);
     }
 
-    pub not_goes : GoesE g vs ob b tm w u (accesses.Number int) found r q → (place : ℕ) (lh : Access) (rch : Reach) → GoesE g vs ob b tm (only_way place meant.negates w) u lh rch (sets_truth place u 0 1 r) q
-    not_goes goes place lh rch = record {
-      at = at_not place lh rch goes.at;
+    convert_is : (place : ℕ) (s : IntType) (a : ℕ → Held) (n : Num) → a u ≡ number n → calculated program_code place (own g ob a b) (ir.convert s u) ≡ Ok (number (num s n.value))
+    convert_is place s a n e = ap (λ (x : Held). on_value (known place x) (on_number (λ (m : Num). Ok (number (num s m.value))))) e
+
+    -- what the comparison of a number to 0 gives comes to the register
+    compared_alike : (x : Turn Control) (place : ℕ) (op : Op) (s : IntType) (n c : Num) → n.ty ≡ s → ((m o : Num) → m.value ≡ n.value → o.value ≡ pos 0 → result_of op m o ≡ Ok c)
+        → (a : ℕ → Held) → Below u tm a → a u ≡ number n → ((d : ℕ → Held) → Below u tm d → Alike g x (then_ r q) (own g ob (set_at d u (number c)) b))
+        → Alike g x (then_ (compares_to_zero place op s u r) q) (own g ob a b)
+    compared_alike x place op s n c kind result a below is leads = by_type (same_type s (promoted_type s)) refl
+      where
+        apply_is : (d : ℕ → Held) (m : Num) → m.ty ≡ promoted_type s → m.value ≡ n.value → d u ≡ number m → d (suc u) ≡ number (num (promoted_type s) (pos 0))
+            → calculated program_code place (own g ob d b) (ir.apply op (promoted_type s) u (suc u)) ≡ Ok (number c)
+        apply_is d m type_is eq there behind_is =
+            let t : IntType = promoted_type s in
+            ap (λ (h : Held). on_value (known place h) (on_number (λ (z : Num). on_value (known place (d (suc u))) (on_number (λ (o : Num). if_taken (takes op t z.ty o.ty) (or_broken place number (result_of op z o))))))) there
+            ∙ ap (λ (h : Held). on_value (known place h) (on_number (λ (o : Num). if_taken (takes op t m.ty o.ty) (or_broken place number (result_of op m o))))) behind_is
+            ∙ taken_is (takes op t m.ty t) (or_broken place number (result_of op m (num t (pos 0)))) (subst (λ (z : IntType). takes op t z t ≡ true) (sym type_is) (one_type op t t refl))
+            ∙ ap (or_broken place number) (result m (num t (pos 0)) eq (zero_is t))
+
+        once_promoted : (d : ℕ → Held) (m : Num) → Below u tm d → m.ty ≡ promoted_type s → m.value ≡ n.value → d u ≡ number m
+            → Alike g x (then_ (sets place (suc u) (ir.constant (promoted_type s) (pos 0)) (sets place u (ir.apply op (promoted_type s) u (suc u)) r)) q) (own g ob d b)
+        once_promoted d m under type_is eq there =
+            let t : IntType = promoted_type s in
+            let ne : u ≢ suc u = λ y. absurd (omega (arith, y)) in
+            let d' : ℕ → Held = set_at d (suc u) (number (num t (pos 0))) in
+            set_then program_code g.thread g.answer g.cs' g.s g.t x place (suc u) (ir.constant t (pos 0)) (sets place u (ir.apply op t u (suc u)) r) q (own g ob d b) (number (num t (pos 0))) refl
+            (set_then program_code g.thread g.answer g.cs' g.s g.t x place u (ir.apply op t u (suc u)) r q (own g ob d' b) (number c)
+            (apply_is d' m type_is eq (set_there d (suc u) (number (num t (pos 0))) u ne ∙ there) (set_here d (suc u) (number (num t (pos 0)))))
+            (leads d' (below_set u (suc u) tm d (number (num t (pos 0))) (omega arith) under)))
+
+        by_type : (one : Bool) → same_type s (promoted_type s) ≡ one
+            → Alike g x (then_ (if one then (sets place (suc u) (ir.constant (promoted_type s) (pos 0)) (sets place u (ir.apply op (promoted_type s) u (suc u)) r)) else sets place u (ir.convert (promoted_type s) u) (sets place (suc u) (ir.constant (promoted_type s) (pos 0)) (sets place u (ir.apply op (promoted_type s) u (suc u)) r))) q) (own g ob a b)
+        by_type true e = once_promoted a n below (kind ∙ one_int s (promoted_type s) e) refl is
+        by_type false e =
+            let m : Num = num (promoted_type s) n.value in
+            set_then program_code g.thread g.answer g.cs' g.s g.t x place u (ir.convert (promoted_type s) u) (sets place (suc u) (ir.constant (promoted_type s) (pos 0)) (sets place u (ir.apply op (promoted_type s) u (suc u)) r)) q (own g ob a b) (number m) (convert_is place (promoted_type s) a n is)
+            (once_promoted (set_at a u (number m)) m (below_set u u tm a (number m) (omega arith) below) refl (promoted_is n s kind) (set_here a u (number m)))
+
+    number_negated : GoesE g vs ob b tm w u (accesses.Number int) found r q → (place : ℕ) (s : IntType) (v : Value) (a : ℕ → Held) → HasKind (accesses.Number s) v → Below u tm a → a u ≡ value v
+        → Alike g ((only_way place meant.negates w).go v (now g vs b)) (then_ (compares_to_zero place ops.Eq s u r) q) (own g ob a b)
+    number_negated goes place s (values.Pointer p) a kind below is = elim kind [ ]
+    number_negated goes place s (values.Num n) a kind below is =
+        let test : Bool = int_eq n.value (pos 0) in
+        subst (λ c. Alike g (w.go (int_of c) (now g vs b)) (then_ (compares_to_zero place ops.Eq s u r) q) (own g ob a b)) (sym (not_not test))
+        (compared_alike (w.go (int_of test) (now g vs b)) place ops.Eq s n (num int (one_if test)) kind
+        (λ m o e d. equal_is m o ∙ ap (λ (y : ℤ). Ok (num int (one_if (int_eq y o.value)))) e ∙ ap (λ (y : ℤ). Ok (num int (one_if (int_eq n.value y)))) d) a below is
+        (λ d under. gets tm d w u (accesses.Number int) found r q goes under (int_of test) refl tt))
+
+    truth_negated : GoesE g vs ob b tm w u (accesses.Number int) found r q → (place : ℕ) (v : Value) (a : ℕ → Held) → Below u tm a → a u ≡ value v
+        → Alike g ((only_way place meant.negates w).go v (now g vs b)) (then_ (sets_truth place u 0 1 r) q) (own g ob a b)
+    truth_negated goes place v a below is =
+        subst (λ (x : Turn Control). Alike g x (then_ (sets_truth place u 0 1 r) q) (own g ob a b)) (sym (not_form place (λ x. w.go x (now g vs b)) (truth_of b v)))
+        (branch program_code g.thread g.answer g.cs' g.s g.t (λ c. w.go (int_of (not c)) (now g vs b)) place u (sets_int place u 0 no_nodes) (sets_int place u 1 no_nodes) r q (own g ob a b) v is
+        (gets_int tm a w u r q goes below place 0) (gets_int tm a w u r q goes below place 1))
+
+    negated : GoesE g vs ob b tm w u (accesses.Number int) found r q → (place : ℕ) (ty : tree.Ty) (v : Value) (a : ℕ → Held) → HasKind (access_of_type ty) v → Below u tm a → a u ≡ value v
+        → Alike g ((only_way place meant.negates w).go v (now g vs b)) (then_ (negation place ty u r) q) (own g ob a b)
+    negated goes place (tree.integer s) v a kind below is = number_negated goes place s v a kind below is
+    negated goes place tree.void v a kind below is = truth_negated goes place v a below is
+    negated goes place (tree.atomic s) v a kind below is = truth_negated goes place v a below is
+    negated goes place tree.mutex v a kind below is = truth_negated goes place v a below is
+    negated goes place (tree.pointer t) v a kind below is = truth_negated goes place v a below is
+    negated goes place (tree.array t m) v a kind below is = truth_negated goes place v a below is
+    negated goes place (tree.structure m) v a kind below is = truth_negated goes place v a below is
+
+    pub not_goes : GoesE g vs ob b tm w u (accesses.Number int) found r q → (place : ℕ) (ty : tree.Ty) (rch : Reach)
+        → GoesE g vs ob b tm (only_way place meant.negates w) u (access_of_type ty) rch (negation place ty u r) q
+    not_goes goes place ty rch = record {
+      at = at_not place ty rch goes.at;
       above = goes.above;
       agrees = goes.agrees;
-      go = λ v a kind below is points.
-          subst (λ (x : Turn Control). Alike g x (then_ (sets_truth place u 0 1 r) q) (own g ob a b)) (sym (not_form place (λ x. w.go x (now g vs b)) (truth_of b v)))
-          (branch program_code g.thread g.answer g.cs' g.s g.t (λ c. w.go (int_of (not c)) (now g vs b)) place u (sets_int place u 0 no_nodes) (sets_int place u 1 no_nodes) r q (own g ob a b) v is
-          (gets_int tm a w u r q goes below place 0) (gets_int tm a w u r q goes below place 1));
+      go = λ v a kind below is points. negated goes place ty v a kind below is;
     }
 
     pub test_goes : GoesE g vs ob b tm w u (accesses.Number int) found r q → (place : ℕ) (rch : Reach) → GoesE g vs ob b tm (only_way place meant.tests w) u accesses.Pointer rch (sets place u (ir.pointer_test u) r) q
@@ -251,9 +319,6 @@ module _ (g : Setting) (vs : List Variable) (ob : ℕ → Option ℕ) (b : Block
                 (gets tm (set_at a (behind rch u) (number (num unsigned_long (pos offset)))) w u accesses.Pointer (member_reach offset rch) r q goes
                 (below_set u (behind rch u) tm a (number (num unsigned_long (pos offset))) (omega (arith, above_behind rch u)) below)
                 (values.Pointer o) tt (member_points a u offset b rch p o (number (num unsigned_long (pos offset))) points eq))
-
-    convert_is : (place : ℕ) (s : IntType) (a : ℕ → Held) (n : Num) → a u ≡ number n → calculated program_code place (own g ob a b) (ir.convert s u) ≡ Ok (number (num s n.value))
-    convert_is place s a n e = ap (λ (x : Held). on_value (known place x) (on_number (λ (m : Num). Ok (number (num s m.value))))) e
 
     number_converted : (place : ℕ) (x y : IntType) (rch : Reach) → GoesE g vs ob b tm w u (accesses.Number y) rch r q → (v : Value) (a : ℕ → Held) → HasKind (accesses.Number x) v → Below u tm a → a u ≡ value v → Points a rch u v
         → Alike g ((only_way place (meant.converts (tree.integer y)) w).go v (now g vs b)) (then_ (converts_number place x y u r) q) (own g ob a b)

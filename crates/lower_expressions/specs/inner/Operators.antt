@@ -4,12 +4,12 @@ use Rattle.c_tree.specs.Typed as tree
 use Rattle.c_meaning.specs.Values.{element_size}
 use Rattle.struct_ir.specs.Nodes.{Calc, Nodes}
 use Rattle.struct_ir.specs.Nodes as ir
-use Rattle.lower_forms.specs.Forms.{sets, sets_truth, converts, is_pointer, sum_calc, number_type}
+use Rattle.lower_forms.specs.Forms.{sets, negation, converts, is_pointer, sum_calc, number_type}
 
 -- an operator of one operand, whose value is in t; a form that is none does nothing
 abbrev pub unary_nodes : (place : ℕ) → tree.Ty → tree.ExprNode → (t : ℕ) → Nodes → Nodes
 unary_nodes place ty (tree.convert e) t rest = converts place (tree.type_of e) ty t rest
-unary_nodes place ty (tree.not_ e) t rest = sets_truth place t 0 1 rest
+unary_nodes place ty (tree.not_ e) t rest = negation place (tree.type_of e) t rest
 unary_nodes place ty (tree.pointer_test p) t rest = sets place t (ir.pointer_test t) rest
 unary_nodes place ty node t rest = rest
 
