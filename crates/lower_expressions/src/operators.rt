@@ -8,7 +8,7 @@ ghost use Rattle.lower_forms.specs.Forms.{compares_to_zero, negation, sum_calc};
 ghost use Rattle.lower_expressions.specs.inner.Operators.{unary_nodes, operation};
 
 use crate::forms::{becomes, converts};
-use crate::nodes::{after, sets, sets_truth};
+use crate::nodes::{after, sets, sets_constant, sets_truth};
 use crate::types::{is_pointer, number_type};
 use ak_words::{IntType, NoMemory, Num, Op, promote};
 use c_meaning::types::element_size;
@@ -46,7 +46,7 @@ fn compares_to_zero(
     };
     let u = after(t)?;
     becomes(out, place, ty, promoted, t)?;
-    sets(out, place, u, Calc::Num(zero))?;
+    sets_constant(out, place, u, zero)?;
     sets(out, place, t, Calc::Apply(op, promoted, t, u))
 }
 
