@@ -10,8 +10,8 @@ use std::alloc::Global;
 use std::io;
 use std::time::Instant;
 
-// The most objects that are placed.
-const MOST_OBJECTS: u32 = 1_000_000;
+/// The most objects that are placed.
+pub const MOST_OBJECTS: u32 = 1_000_000;
 
 // The bytes of a sub-heap, and how many objects find a place there whatever their sizes.
 const HEAP_BYTES: u32 = 16_777_216;
@@ -29,8 +29,8 @@ fn draw(seed: u32) -> u32 {
     seed.wrapping_mul(1_103_515_245).wrapping_add(12_345)
 }
 
-// An arena of so many sub-heaps of this size, for so many objects.
-fn make_arena(alloc: Global, count: u32, size: u32, ids: u32) -> Result<Arena, NoMemory>
+/// An arena of so many sub-heaps of this size, for so many objects.
+pub fn make_arena(alloc: Global, count: u32, size: u32, ids: u32) -> Result<Arena, NoMemory>
     requires { IsShape count size ids }
 {
     Arena::new(alloc, 0, count, size, ids)
@@ -45,8 +45,8 @@ fn place_each(arena: &mut Arena, objects: u32) {
     }
 }
 
-// Writes into each of the objects with these ids its id.
-fn mark_each(arena: &mut Arena, objects: u32)
+/// Writes into each of the objects with these ids its id.
+pub fn mark_each(arena: &mut Arena, objects: u32)
     requires { objects ≤ 1000000 }
 {
     for id in 0..objects {
@@ -55,8 +55,8 @@ fn mark_each(arena: &mut Arena, objects: u32)
     }
 }
 
-// How many objects hold their ids.
-fn marked(arena: &Arena, objects: u32) -> u32
+/// How many objects hold their ids.
+pub fn marked(arena: &Arena, objects: u32) -> u32
     requires { objects ≤ 1000000 }
 {
     let mut found: u32 = 0;
@@ -69,8 +69,8 @@ fn marked(arena: &Arena, objects: u32) -> u32
     found
 }
 
-// Frees every second one of the objects, from the first on.
-fn free_every_second(arena: &mut Arena, objects: u32)
+/// Frees every second one of the objects, from the first on.
+pub fn free_every_second(arena: &mut Arena, objects: u32)
     requires { objects ≤ 1000000 }
 {
     for half in 0..objects / 2 {
@@ -78,8 +78,8 @@ fn free_every_second(arena: &mut Arena, objects: u32)
     }
 }
 
-// How many bytes the moves take along.
-fn bytes_of(plan: &Plan) -> u64 {
+/// How many bytes the moves take along.
+pub fn bytes_of(plan: &Plan) -> u64 {
     let mut bytes: u64 = 0;
     for turn in 0..plan.len() {
         if let Some(m) = plan.get(turn) {

@@ -1,7 +1,7 @@
 //! Measures parts of this project: `bench compile FILE` reads a C text, lowers it and makes it the machine's code; `bench run FILE` runs its thread 0
 //! by the interpreter of the source, and `bench races FILE` walks its turns for races as well; `bench check FILE` checks it in a seeded order; `bench table IDS` takes and gives ids; `bench heaps OBJECTS` places
-//! and frees objects in sub-heaps; `bench evacuation OBJECTS` moves objects out of thin sub-heaps; `bench arena OBJECTS` places objects and slides them;
-//! `bench filled OBJECTS` takes objects of 1 MiB that are copied, and such that are cleared; `bench turns TURNS` takes turns under the lock. Without
+//! and frees objects in sub-heaps; `bench evacuation OBJECTS` moves objects out of thin sub-heaps; `bench arena OBJECTS` places objects and moves them down;
+//! `bench slides SIZE` slides objects of a size; `bench filled OBJECTS` takes objects of 1 MiB that are copied, and such that are cleared; `bench turns TURNS` takes turns under the lock. Without
 //! words each is done once, over what is small.
 //! Promises nothing upward: it is a program. What it prints on standard output is the same at each run of one text or number, and the times go to
 //! standard error.
@@ -13,6 +13,7 @@ mod arena;
 mod evacuation;
 mod filled;
 mod heaps;
+mod slides;
 mod table;
 mod texts;
 mod turns;
@@ -25,6 +26,9 @@ const USUAL: u32 = 1000;
 
 // How many objects of 1 MiB there are then.
 const FEW: u32 = 10;
+
+// The size of the objects that slide then.
+const SLID_SIZE: u32 = 1024;
 
 // Measures each part but the turns over what is small.
 fn run_small(rt: &HostRuntime) -> io::Result<()> {
@@ -44,6 +48,8 @@ fn run_small(rt: &HostRuntime) -> io::Result<()> {
     evacuation::run(rt, USUAL)?;
     println!(rt; "# arena")?;
     arena::run(rt, USUAL)?;
+    println!(rt; "# slides")?;
+    slides::run(rt, SLID_SIZE, USUAL)?;
     println!(rt; "# filled")?;
     filled::run(rt, FEW)
 }
@@ -68,6 +74,7 @@ fn main(rt: HostRuntime) -> io::Result<()> {
         "heaps" => heaps::run(&rt, number),
         "evacuation" => evacuation::run(&rt, number),
         "arena" => arena::run(&rt, number),
+        "slides" => slides::run(&rt, number, arena::MOST_OBJECTS),
         "filled" => filled::run(&rt, number),
         "turns" => turns::run(&rt, rt.alloc(), number),
         _ => Err(io::Error::from(io::ErrorKind::InvalidInput)),
