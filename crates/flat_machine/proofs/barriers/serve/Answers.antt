@@ -86,6 +86,7 @@ returns-in-Went c =
     let b = before_malloc c.args.program.now c.args.ctx.now (instr_view c.instr.result.now) c.requires.of c.requires.waits c.instr.ensures.is in
     let view : acts c.instr.result.now.place (step (step_view c.in-Step.node.value)) ≡ instr_view c.instr.result.now = ap (instr_kind_view c.instr.result.now.place) (sym c.in-Step.is) in
     let same : step_view c.deref.result.now ≡ b.at.node = let w = view ∙ b.at.is in let held : step_view c.in-Step.node.value ≡ b.at.node = cc in ap step_view c.deref.ensures ∙ held in
+    let landed : step_view c.deref-in-Went.result.now ≡ b.at.node = let w = view ∙ b.at.is in let held : step_view c.in-Step.node.value ≡ b.at.node = cc in ap step_view c.deref-in-Went.ensures ∙ held in
     let code = c.args.program.now in
     let old = c.args.shared.now in
     let mid = c.serve.new.self in
@@ -98,5 +99,5 @@ returns-in-Went c =
     served_is code old mid c.tell_served.new.self ctx c.land.new.self (instr_view c.instr.result.now) b word turned
     (subst (λ (q : Point Spot Words). does_at q b.at.node) b.top (subst (λ (s : Step). does_at (top_of ctx) s) same (c.in-Went.ensures.does code takes)))
     (subst (λ (q : Point Spot Words). told_at q b.at.node) b.top (subst (λ (s : Step). told_at (top_of ctx) s) same (c.in-Went.ensures.told takes)))
-    (c.land.ensures ∙ ap (λ s. standing ctx (landed_stage s ctx.stage word) None) same)
+    (c.land.ensures ∙ ap (λ s. standing ctx (landed_stage s ctx.stage word) None) landed)
     (c.tell_served.ensures ∙ ap (λ k. record mid { made = mid.made ++ served_with 0 k (object_told turned) ∷ [] }) (c.thread.ensures.number ∙ ap (λ (v : Context). v.number) c.land.ensures))
