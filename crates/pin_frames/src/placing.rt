@@ -126,6 +126,10 @@ fn list_bases(alloc: Global, bases: Vec<u32>, rows: Vec<Node>) -> Result<Vec<Nod
     ensures { IfOk result (λ v. nodes_view v.items ≡ listed_each (slot_if bases.items) bases.items (seated (cleared (nodes_view rows.items)) no_nodes)) }
 {
     let code = seat_row(alloc, rows)?;
+    // (nothing is listed where no register is the base of an access: the code needs no copy)
+    if bases.is_empty() {
+        return Ok(code);
+    }
     let homes = homes_of(alloc, bases)?;
     let outline = outline_of(alloc, homes, &code)?;
     match list_together(alloc, &outline, &code)? {
