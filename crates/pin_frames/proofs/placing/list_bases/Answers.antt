@@ -1,5 +1,5 @@
-use Rattle.std.proofs.Common.{◌≡◌, ◌==◌, ℕ, List, [], ◌∷◌, Option, true, length, refl, sym, ap, subst, ◌∙◌, arith}
-use Rattle.std.proofs.lemmas.Bool.{false≢true}
+use Rattle.std.proofs.Common.{◌≡◌, ◌==◌, ℕ, List, [], ◌∷◌, Option, length, refl, sym, ap, subst, ◌∙◌, arith}
+use Rattle.std.proofs.lemmas.Bool.{eqb-true}
 use Rattle.std.proofs.lemmas.Result.{IfOk-weaker}
 use Rattle.struct_ir.specs.Nodes.{Nodes, no_nodes}
 use Rattle.struct_ir.specs.Views.{nodes_view}
@@ -14,16 +14,16 @@ use Rattle.pin_frames.proofs.Seated.{row_alone}
 use Rattle.pin_frames.proofs.placing.list_bases.Goals as goal
 
 -- for no register nothing is listed
-none_listed : (s : ℕ → Option ℕ) (bs : List ℕ) (ns : Nodes) → (length bs == 0) ≡ true → ns ≡ listed_each s bs ns
+none_listed : (s : ℕ → Option ℕ) (bs : List ℕ) (ns : Nodes) → length bs ≡ 0 → ns ≡ listed_each s bs ns
 none_listed s [] ns e = refl
-none_listed s (b ∷ bs) ns e = absurd (false≢true e)
+none_listed s (b ∷ bs) ns e = absurd (omega (arith, e))
 
 pub returns-then-is_empty : goal.returns-then-is_empty
 returns-then-is_empty c =
     let bs = c.args.bases.items in
     let rows = nodes_view c.args.rows.items in
-    row_alone c.in_ok-code.code.items (cleared rows) c.in_ok-code.ensures
-    ∙ none_listed (slot_if bs) bs (seated (cleared rows) no_nodes) (ap (λ k. k == 0) (sym c.args.bases.ok.0) ∙ (sym c.is_empty.ensures ∙ c.if-is_empty.true))
+    let none = eqb-true (length bs) 0 (ap (λ k. k == 0) (sym c.args.bases.ok.0) ∙ (sym c.is_empty.ensures ∙ c.if-is_empty.true)) in
+    row_alone c.in_ok-code.code.items (cleared rows) c.in_ok-code.ensures ∙ none_listed (slot_if bs) bs (seated (cleared rows) no_nodes) none
 
 pub returns-in-Some : goal.returns-in-Some
 returns-in-Some c =
