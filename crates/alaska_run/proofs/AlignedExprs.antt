@@ -1,10 +1,11 @@
 -- In the code of expressions each copy is aligned to 1, 2, 4 or 8 bytes.
 use Rattle.std.proofs.Common.{ℕ, suc, Bool, true, false, if◌then◌else◌, Option, Some, None, refl}
 use Rattle.ak_words.specs.declared.int_type.IntType.{IntType}
+use Rattle.ak_words.specs.IntType.{promoted_type}
 use Rattle.c_tree.specs.Typed as tree
 use Rattle.struct_ir.specs.Nodes.{Nodes, no_nodes, convert}
 use Rattle.struct_ir.specs.meaning.Blocks.{same_type}
-use Rattle.lower_forms.specs.Forms.{Frame, home, local_value, local_place, sets, number_type, converts_number, converts, lib_nodes, expr_nodes, value_nodes, place_nodes, object_place, args_nodes}
+use Rattle.lower_forms.specs.Forms.{Frame, home, local_value, local_place, sets, number_type, converts_number, converts, negation, lib_nodes, expr_nodes, value_nodes, place_nodes, object_place, args_nodes}
 use Rattle.alaska_run.proofs.AlignedRows.{AreAligned}
 
 -- ---- parts of expressions
@@ -32,6 +33,15 @@ converts_aligned place from tree.mutex t rest g = g
 converts_aligned place from (tree.pointer s) t rest g = g
 converts_aligned place from (tree.array s n) t rest g = g
 converts_aligned place from (tree.structure n) t rest g = g
+
+negation_aligned : (place : ℕ) (ty : tree.Ty) (t : ℕ) (rest : Nodes) → AreAligned rest → AreAligned (negation place ty t rest)
+negation_aligned place tree.void t rest g = (((tt, tt), (tt, tt)), g)
+negation_aligned place (tree.integer s) t rest g = becomes_aligned place s (promoted_type s) t _ (tt, (tt, g))
+negation_aligned place (tree.atomic s) t rest g = (((tt, tt), (tt, tt)), g)
+negation_aligned place tree.mutex t rest g = (((tt, tt), (tt, tt)), g)
+negation_aligned place (tree.pointer s) t rest g = (((tt, tt), (tt, tt)), g)
+negation_aligned place (tree.array s n) t rest g = (((tt, tt), (tt, tt)), g)
+negation_aligned place (tree.structure n) t rest g = (((tt, tt), (tt, tt)), g)
 
 lib_aligned : (place : ℕ) (which : tree.Lib) (es : tree.Exprs) (t : ℕ) (rest : Nodes) → AreAligned rest → AreAligned (lib_nodes place which es t rest)
 lib_aligned place (tree.print pieces) es t rest g = (tt, g)
@@ -70,7 +80,7 @@ module _ (f : Frame) where
     value_aligned place ty (tree.address_of e) t rest g = place_aligned e t rest g
     value_aligned place ty (tree.decay e) t rest g = place_aligned e t rest g
     value_aligned place ty (tree.convert e) t rest g = expr_aligned e t _ (converts_aligned place (tree.type_of e) ty t rest g)
-    value_aligned place ty (tree.not_ e) t rest g = expr_aligned e t _ (((tt, tt), (tt, tt)), g)
+    value_aligned place ty (tree.not_ e) t rest g = expr_aligned e t _ (negation_aligned place (tree.type_of e) t rest g)
     value_aligned place ty (tree.binary op d e) t rest g = expr_aligned d t _ (expr_aligned e (suc t) _ (tt, g))
     value_aligned place ty (tree.and_also d e) t rest g =
         expr_aligned d t _ ((expr_aligned e t _ (((tt, tt), (tt, tt)), tt), (tt, tt)), g)
