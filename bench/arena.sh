@@ -132,7 +132,7 @@ for size in 16 64 1024 4096 65536; do
   grep -qx "$moves of them slide with $((moves * size)) bytes, and $moves hold their ids" "$work/out" || { echo "the two programs don't slide the same bytes" >&2; cat "$work/out" >&2; exit 1; }
   tr -d '\na-z:,' <"$work/times" | awk -v n="$size" -v k="$moves" -v m="$micros" '
     function rate(t) { return t > 0 ? n * k / t * 1e6 / 1048576 : 0 }
-    { printf "%9d %9d %9.3f %12.0f %14.0f %12.0f %8.0f%%\n", n, k, $1 / 1e6, $1 * 1e3 / k, rate($1), rate(m), $1 > 0 ? 100 * m / $1 : 0 }'
+    { printf "%9d %9d %9.3f %12.0f %14.0f %12.0f %8.0f%%\n", n, k, $1 / 1e6, $1 * 1e3 / k, rate($1), rate(m), ($1 > 0 ? 100 * m / $1 : 0) }'
 done
 
 # The same bytes, copied and cleared as often in C.
